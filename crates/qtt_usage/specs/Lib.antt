@@ -1,0 +1,2 @@
+pub mod Mult
+pub mod Uses

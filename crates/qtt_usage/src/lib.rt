@@ -1,0 +1,4 @@
+//! Multiplicities, and how often the variables of a context are used.
+#![tactic(auto)]
+
+pub mod mult;
