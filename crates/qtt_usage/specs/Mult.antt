@@ -1,5 +1,6 @@
 -- Multiplicities: sum, product, join, and the order of permitted use.
 use Rattle.std.specs.Prelude.{◌≡◌, Bool, true, false, T, refl}
+use Rattle.std.proofs.Common.{subst}
 use Rattle.qtt_usage.specs.declared.mult.Mult.{Mult}
 use Rattle.qtt_usage.specs.declared.mult.Mult.TheVariants.{Zero, One, Many}
 
@@ -54,3 +55,24 @@ same_mult 𝟘 𝟘 = true
 same_mult 𝟙 𝟙 = true
 same_mult ω ω = true
 same_mult _ _ = false
+
+-- what is equal passes the test
+pub equal_are_same : (x y : Mult) → x ≡ y → T (same_mult x y)
+equal_are_same x y e = subst (λ z. T (same_mult x z)) e (same_itself x)
+  where
+    same_itself : (a : Mult) → T (same_mult a a)
+    same_itself Zero = tt
+    same_itself One = tt
+    same_itself Many = tt
+
+-- equality of multiplicities is decided
+abbrev pub mult_discrete : Discrete Mult
+mult_discrete Zero Zero = yes refl
+mult_discrete Zero One = no (λ e. equal_are_same Zero One e)
+mult_discrete Zero Many = no (λ e. equal_are_same Zero Many e)
+mult_discrete One Zero = no (λ e. equal_are_same One Zero e)
+mult_discrete One One = yes refl
+mult_discrete One Many = no (λ e. equal_are_same One Many e)
+mult_discrete Many Zero = no (λ e. equal_are_same Many Zero e)
+mult_discrete Many One = no (λ e. equal_are_same Many One e)
+mult_discrete Many Many = yes refl

@@ -1,7 +1,7 @@
 -- Use vectors: how often each variable of a context and each tape (an open file handle) is used.
 use Rattle.std.specs.Prelude.{ℕ, zero, suc}
 use Rattle.qtt_usage.specs.declared.mult.Mult.{Mult}
-use Rattle.qtt_usage.specs.Mult.{𝟘, 𝟙, ω}
+use Rattle.qtt_usage.specs.Mult.{𝟘, 𝟙}
 
 -- what is used: a variable by its de Bruijn index, or a tape by its number
 pub data Key : Type 0 where
