@@ -1,0 +1,3 @@
+pub mod PrimNames
+pub mod Apply
+pub mod Examples
