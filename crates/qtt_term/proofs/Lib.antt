@@ -1,0 +1,3 @@
+pub mod Subst
+pub mod Closed
+pub mod Facts

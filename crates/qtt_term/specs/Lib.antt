@@ -1,0 +1,13 @@
+pub mod Term
+pub mod Substitution
+pub mod Signature
+pub mod Contraction
+pub mod Value
+pub mod FullStep
+pub mod FullRun
+pub mod TapeDiscipline
+pub mod Judgement
+pub mod Positivity
+pub mod Environment
+pub mod Question
+pub mod Laws
