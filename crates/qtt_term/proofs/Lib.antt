@@ -1,3 +1,4 @@
 pub mod Subst
 pub mod Closed
 pub mod Facts
+pub mod Same
