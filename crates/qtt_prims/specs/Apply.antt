@@ -4,8 +4,8 @@ use Rattle.std.specs.Int.{w64, int_wrapping_add, int_wrapping_sub, int_wrapping_
 use Rattle.std.specs.Ordering.{int_eq}
 use Rattle.std.specs.Fmt.{signed_decimal}
 use Rattle.std.specs.Str.{bytes_eq}
-use Rattle.qtt_prims.specs.declared.prim.Prim.{Prim}
-use Rattle.qtt_prims.specs.declared.prim.Prim.TheVariants.{AddInt, SubInt, MulInt, DivInt, ModInt, EqInt, LtInt, AppendString, EqString, ShowInt}
+use Rattle.qtt_prims.specs.declared.prim.Primitive.{Primitive}
+use Rattle.qtt_prims.specs.declared.prim.Primitive.TheVariants.{AddInt, SubInt, MulInt, DivInt, ModInt, EqInt, LtInt, AppendString, EqString, ShowInt}
 use Rattle.qtt_prims.specs.declared.lit.Lit.{Lit}
 use Rattle.qtt_prims.specs.declared.lit.Lit.TheVariants.{Int, Text}
 use Rattle.qtt_prims.specs.declared.answer.PrimAnswer.{PrimAnswer}
@@ -35,7 +35,7 @@ abbrev pub unless_zero : ℤ → PrimAnswer → PrimAnswer
 unless_zero y answer = cond (int_eq y (pos 0)) DivisionByZero answer
 
 -- numbers wrap at 64 bits; a division truncates toward zero, and its remainder has the sign of x
-abbrev pub apply : Prim → List Lit → PrimAnswer
+abbrev pub apply : Primitive → List Lit → PrimAnswer
 apply AddInt = of_numbers (λ x y. number (int_wrapping_add w64 x y))
 apply SubInt = of_numbers (λ x y. number (int_wrapping_sub w64 x y))
 apply MulInt = of_numbers (λ x y. number (int_wrapping_mul w64 x y))

@@ -1,7 +1,7 @@
 -- Worked examples of the primitives.
 use Rattle.std.specs.Prelude.{◌≡◌, ◌-◌, ◌^◌, ℤ, pos, negsuc, true, false, [], ◌∷◌, List, codes, refl}
 use Rattle.std.specs.Fmt.{digits}
-use Rattle.qtt_prims.specs.declared.prim.Prim.TheVariants.{AddInt, SubInt, MulInt, DivInt, ModInt, EqInt, LtInt, AppendString, EqString, ShowInt}
+use Rattle.qtt_prims.specs.declared.prim.Primitive.TheVariants.{AddInt, SubInt, MulInt, DivInt, ModInt, EqInt, LtInt, AppendString, EqString, ShowInt}
 use Rattle.qtt_prims.specs.declared.lit.Lit.{Lit}
 use Rattle.qtt_prims.specs.declared.lit.Lit.TheVariants.{Int, Text}
 use Rattle.qtt_prims.specs.declared.answer.PrimAnswer.TheVariants.{Truth, DivisionByZero, IllTyped}

@@ -1,11 +1,11 @@
 -- The names of primitives and of actions, as a text and a listing write them.
 use Rattle.std.specs.Prelude.{ℕ, List, codes}
-use Rattle.qtt_prims.specs.declared.prim.Prim.{Prim}
-use Rattle.qtt_prims.specs.declared.prim.Prim.TheVariants.{AddInt, SubInt, MulInt, DivInt, ModInt, EqInt, LtInt, AppendString, EqString, ShowInt}
+use Rattle.qtt_prims.specs.declared.prim.Primitive.{Primitive}
+use Rattle.qtt_prims.specs.declared.prim.Primitive.TheVariants.{AddInt, SubInt, MulInt, DivInt, ModInt, EqInt, LtInt, AppendString, EqString, ShowInt}
 use Rattle.qtt_prims.specs.declared.prim.ActKind.{ActKind}
 use Rattle.qtt_prims.specs.declared.prim.ActKind.TheVariants.{Pure, Pure1, PutLine, GetLine, Open, Write, Close, BindIoIo, BindIoIo1, BindIo1Io, BindIo1Io1}
 
-abbrev pub prim_name : Prim → List ℕ
+abbrev pub prim_name : Primitive → List ℕ
 prim_name AddInt = codes "addInt"
 prim_name SubInt = codes "subInt"
 prim_name MulInt = codes "mulInt"

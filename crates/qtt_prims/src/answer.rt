@@ -5,7 +5,7 @@ ghost use Rattle.qtt_prims.specs.Apply.{apply, AnswersText};
 ghost use Rattle.qtt_prims.specs.declared.lit.Lit.TheVariants as lit;
 
 use crate::lit::{Lit, Text};
-use crate::prim::Prim;
+use crate::prim::Primitive;
 use std::alloc::{AllocError, Global};
 use thiserror::Error;
 
@@ -33,7 +33,7 @@ impl From<AllocError> for PrimError {
 }
 
 /// Applies a primitive to literals. Only an answer that is a text takes memory.
-pub fn apply(alloc: Global, prim: Prim, args: &[Lit]) -> Result<PrimAnswer, PrimError>
+pub fn apply(alloc: Global, prim: Primitive, args: &[Lit]) -> Result<PrimAnswer, PrimError>
     ensures ok { IfOk result (λ answer. answer ≡ apply prim args.now) }
     ensures memory { OnErr result (AnswersText (apply prim args.now)) }
 {
@@ -45,44 +45,44 @@ pub fn apply(alloc: Global, prim: Prim, args: &[Lit]) -> Result<PrimAnswer, Prim
     }
 }
 
-fn of_numbers(prim: Prim, x: i64, y: i64) -> PrimAnswer
+fn of_numbers(prim: Primitive, x: i64, y: i64) -> PrimAnswer
     ensures { result ≡ apply prim (lit.Int x ∷ lit.Int y ∷ []) }
 {
     match prim {
-        Prim::AddInt => PrimAnswer::Value(Lit::Int(x.wrapping_add(y))),
-        Prim::SubInt => PrimAnswer::Value(Lit::Int(x.wrapping_sub(y))),
-        Prim::MulInt => PrimAnswer::Value(Lit::Int(x.wrapping_mul(y))),
-        Prim::DivInt if y == 0 => PrimAnswer::DivisionByZero,
-        Prim::DivInt => PrimAnswer::Value(Lit::Int(x.wrapping_div(y))),
-        Prim::ModInt if y == 0 => PrimAnswer::DivisionByZero,
-        Prim::ModInt => PrimAnswer::Value(Lit::Int(x.wrapping_rem(y))),
-        Prim::EqInt => PrimAnswer::Truth(x == y),
-        Prim::LtInt => PrimAnswer::Truth(x < y),
-        Prim::AppendString | Prim::EqString | Prim::ShowInt => PrimAnswer::IllTyped,
+        Primitive::AddInt => PrimAnswer::Value(Lit::Int(x.wrapping_add(y))),
+        Primitive::SubInt => PrimAnswer::Value(Lit::Int(x.wrapping_sub(y))),
+        Primitive::MulInt => PrimAnswer::Value(Lit::Int(x.wrapping_mul(y))),
+        Primitive::DivInt if y == 0 => PrimAnswer::DivisionByZero,
+        Primitive::DivInt => PrimAnswer::Value(Lit::Int(x.wrapping_div(y))),
+        Primitive::ModInt if y == 0 => PrimAnswer::DivisionByZero,
+        Primitive::ModInt => PrimAnswer::Value(Lit::Int(x.wrapping_rem(y))),
+        Primitive::EqInt => PrimAnswer::Truth(x == y),
+        Primitive::LtInt => PrimAnswer::Truth(x < y),
+        Primitive::AppendString | Primitive::EqString | Primitive::ShowInt => PrimAnswer::IllTyped,
     }
 }
 
-fn of_texts(alloc: Global, prim: Prim, s: &Text, t: &Text) -> Result<PrimAnswer, PrimError>
+fn of_texts(alloc: Global, prim: Primitive, s: &Text, t: &Text) -> Result<PrimAnswer, PrimError>
     ensures ok { IfOk result (λ answer. answer ≡ apply prim (lit.Text s.now ∷ lit.Text t.now ∷ [])) }
     ensures memory { OnErr result (AnswersText (apply prim (lit.Text s.now ∷ lit.Text t.now ∷ []))) }
 {
     match prim {
-        Prim::AppendString => {
+        Primitive::AppendString => {
             let mut joined = String::from_str(alloc, s.as_str())?;
             joined.push_str(t.as_str())?;
             Ok(PrimAnswer::Value(Lit::Text(Text::new(joined))))
         }
-        Prim::EqString => Ok(PrimAnswer::Truth(s.as_str() == t.as_str())),
+        Primitive::EqString => Ok(PrimAnswer::Truth(s.as_str() == t.as_str())),
         _ => Ok(PrimAnswer::IllTyped),
     }
 }
 
-fn of_number(alloc: Global, prim: Prim, x: i64) -> Result<PrimAnswer, PrimError>
+fn of_number(alloc: Global, prim: Primitive, x: i64) -> Result<PrimAnswer, PrimError>
     ensures ok { IfOk result (λ answer. answer ≡ apply prim (lit.Int x ∷ [])) }
     ensures memory { OnErr result (AnswersText (apply prim (lit.Int x ∷ []))) }
 {
     match prim {
-        Prim::ShowInt => Ok(PrimAnswer::Value(Lit::Text(Text::new(x.to_string(alloc)?)))),
+        Primitive::ShowInt => Ok(PrimAnswer::Value(Lit::Text(Text::new(x.to_string(alloc)?)))),
         _ => Ok(PrimAnswer::IllTyped),
     }
 }

@@ -7,4 +7,4 @@ pub mod prim;
 
 pub use answer::{PrimAnswer, PrimError, apply};
 pub use lit::{Lit, Text};
-pub use prim::{ActKind, Prim};
+pub use prim::{ActKind, Primitive};

@@ -5,7 +5,7 @@ ghost use Rattle.qtt_prims.specs.PrimNames.{prim_name, action_name};
 
 /// A primitive on literals.
 #[derive(Clone, Copy, Debug, PartialEq, Eq)]
-pub enum Prim {
+pub enum Primitive {
     AddInt,
     SubInt,
     MulInt,
@@ -34,25 +34,25 @@ pub enum ActKind {
     BindIo1Io1,
 }
 
-impl Prim {
+impl Primitive {
     pub fn name(self) -> &'static str
         ensures { result.now ≡ prim_name self }
     {
         match self {
-            Prim::AddInt => "addInt",
-            Prim::SubInt => "subInt",
-            Prim::MulInt => "mulInt",
-            Prim::DivInt => "divInt",
-            Prim::ModInt => "modInt",
-            Prim::EqInt => "eqInt",
-            Prim::LtInt => "ltInt",
-            Prim::AppendString => "appendString",
-            Prim::EqString => "eqString",
-            Prim::ShowInt => "showInt",
+            Primitive::AddInt => "addInt",
+            Primitive::SubInt => "subInt",
+            Primitive::MulInt => "mulInt",
+            Primitive::DivInt => "divInt",
+            Primitive::ModInt => "modInt",
+            Primitive::EqInt => "eqInt",
+            Primitive::LtInt => "ltInt",
+            Primitive::AppendString => "appendString",
+            Primitive::EqString => "eqString",
+            Primitive::ShowInt => "showInt",
         }
     }
 
-    pub fn same(self, other: Prim) -> bool
+    pub fn same(self, other: Primitive) -> bool
         ensures { IsTrue result ↔ (self ≡ other) }
     {
         self == other

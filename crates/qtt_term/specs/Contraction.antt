@@ -3,7 +3,7 @@ use Rattle.std.specs.Prelude.{◌≡◌, ℕ, zero, suc, List, [], ◌∷◌, Op
 use Rattle.qtt_base.specs.declared.place.GlobalId.{GlobalId}
 use Rattle.qtt_usage.specs.declared.mult.Mult.{Mult}
 use Rattle.qtt_usage.specs.Mult.{same_mult}
-use Rattle.qtt_prims.specs.declared.prim.Prim.{Prim}
+use Rattle.qtt_prims.specs.declared.prim.Primitive.{Primitive}
 use Rattle.qtt_prims.specs.declared.lit.Lit.{Lit}
 use Rattle.qtt_prims.specs.declared.answer.PrimAnswer.{PrimAnswer}
 use Rattle.qtt_prims.specs.declared.answer.PrimAnswer.TheVariants as answer
@@ -92,7 +92,7 @@ answer_term (answer.Truth b) = Some (truth b)
 answer_term answer.DivisionByZero = None
 answer_term answer.IllTyped = None
 
-abbrev pub computed : Prim → List Lit → Option Term
+abbrev pub computed : Primitive → List Lit → Option Term
 computed p ls = answer_term (apply p ls)
 
 -- ---- the contraction of a term itself

@@ -2,7 +2,7 @@
 use Rattle.std.specs.Prelude.{List, ◌∷◌, Option, Some, None}
 use Rattle.qtt_usage.specs.declared.mult.Mult.{Mult}
 use Rattle.qtt_usage.specs.Mult.{𝟘, 𝟙, ω}
-use Rattle.qtt_prims.specs.declared.prim.Prim.{Prim}
+use Rattle.qtt_prims.specs.declared.prim.Primitive.{Primitive}
 use Rattle.qtt_prims.specs.declared.lit.Lit.{Lit}
 use Rattle.qtt_prims.specs.declared.answer.PrimAnswer.{PrimAnswer}
 use Rattle.qtt_prims.specs.declared.answer.PrimAnswer.TheVariants as answer
@@ -59,7 +59,7 @@ answers (answer.Truth b) = contracts_to (answer_term (answer.Truth b))
 answers answer.DivisionByZero = Outcome.trap Cause.division_by_zero
 answers answer.IllTyped = Outcome.stuck
 
-abbrev pub primitive : Prim → Option (List Lit) → Outcome
+abbrev pub primitive : Primitive → Option (List Lit) → Outcome
 primitive p None = Outcome.stuck
 primitive p (Some ls) = answers (apply p ls)
 

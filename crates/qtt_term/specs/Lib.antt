@@ -11,3 +11,4 @@ pub mod Positivity
 pub mod Environment
 pub mod Question
 pub mod Laws
+pub mod View

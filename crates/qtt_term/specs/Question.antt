@@ -3,8 +3,8 @@ use Rattle.std.specs.Prelude.{ℕ, zero, suc, ◌+◌, List, [], ◌∷◌, ◌+
 use Rattle.std.specs.Ordering.{int_eq}
 use Rattle.std.specs.Str.{bytes_eq}
 use Rattle.qtt_usage.specs.Mult.{same_mult}
-use Rattle.qtt_prims.specs.declared.prim.Prim.{Prim}
-use Rattle.qtt_prims.specs.declared.prim.Prim.TheVariants as prim
+use Rattle.qtt_prims.specs.declared.prim.Primitive.{Primitive}
+use Rattle.qtt_prims.specs.declared.prim.Primitive.TheVariants as prim
 use Rattle.qtt_prims.specs.declared.lit.Lit.{Lit}
 use Rattle.qtt_prims.specs.declared.lit.Lit.TheVariants as literal
 use Rattle.qtt_term.specs.Term.{Io, PrimTy, Action, Named, Form, Term, Terms, var, node, ε, ◌▸◌, size, same_id}
@@ -81,7 +81,7 @@ same_prim_ty PrimTy.handle PrimTy.handle = true
 same_prim_ty (PrimTy.io_of m) (PrimTy.io_of n) = same_io m n
 same_prim_ty _ _ = false
 
-abbrev pub same_prim : Prim → Prim → Bool
+abbrev pub same_prim : Primitive → Primitive → Bool
 same_prim prim.AddInt prim.AddInt = true
 same_prim prim.SubInt prim.SubInt = true
 same_prim prim.MulInt prim.MulInt = true

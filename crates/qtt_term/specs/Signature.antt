@@ -3,8 +3,8 @@ use Rattle.std.specs.Prelude.{ℕ, suc, List, [], ◌∷◌, ◌++◌, length, O
 use Rattle.qtt_base.specs.declared.place.GlobalId.{GlobalId}
 use Rattle.qtt_usage.specs.declared.mult.Mult.{Mult}
 use Rattle.qtt_usage.specs.Mult.{𝟘, 𝟙, ω}
-use Rattle.qtt_prims.specs.declared.prim.Prim.{Prim}
-use Rattle.qtt_prims.specs.declared.prim.Prim.TheVariants as prim
+use Rattle.qtt_prims.specs.declared.prim.Primitive.{Primitive}
+use Rattle.qtt_prims.specs.declared.prim.Primitive.TheVariants as prim
 use Rattle.qtt_prims.specs.declared.lit.Lit.TheVariants as literal
 use Rattle.qtt_term.specs.Term.{Io, PrimTy, Action, Named, Form, Term, Terms, var, node, ε, ◌▸◌, ◌+++◌, Sort, Pi, Fam, TypeOf}
 use Rattle.qtt_term.specs.Substitution.{ren, shift, above}
@@ -151,7 +151,7 @@ mult_of Io.io1 = 𝟙
 abbrev pub from_to : Tele → Term → Signature
 from_to Θ A = record { arguments = Θ; type = A; mult = ω }
 
-abbrev pub prim_signature : Prim → Signature
+abbrev pub prim_signature : Primitive → Signature
 prim_signature prim.AddInt = from_to ((ω, IntTy) ∷ (ω, IntTy) ∷ []) IntTy
 prim_signature prim.SubInt = from_to ((ω, IntTy) ∷ (ω, IntTy) ∷ []) IntTy
 prim_signature prim.MulInt = from_to ((ω, IntTy) ∷ (ω, IntTy) ∷ []) IntTy

@@ -4,7 +4,7 @@
 use Rattle.std.specs.Prelude.{ℕ, zero, suc, ℤ, Bool, ◌&&◌, eqb, List, [], ◌∷◌}
 use Rattle.qtt_base.specs.declared.place.GlobalId.{GlobalId}
 use Rattle.qtt_usage.specs.declared.mult.Mult.{Mult}
-use Rattle.qtt_prims.specs.declared.prim.Prim.{Prim}
+use Rattle.qtt_prims.specs.declared.prim.Primitive.{Primitive}
 use Rattle.qtt_prims.specs.declared.lit.Lit.{Lit}
 use Rattle.qtt_prims.specs.declared.lit.Lit.TheVariants as literal
 
@@ -27,7 +27,7 @@ pub data Named : Type 0 where
   def : GlobalId → Named
   lit : Lit → Named
   prim_ty : PrimTy → Named
-  prim : Prim → Named
+  prim : Primitive → Named
   act : Action → Named
 
 pub data Form : Type 0 where
@@ -122,7 +122,7 @@ TextLit s = node (Form.named (Named.lit (literal.Text s))) ε
 pattern abbrev pub TypeOf : PrimTy → Terms → Term
 TypeOf p ts = node (Form.named (Named.prim_ty p)) ts
 
-pattern abbrev pub Call : Prim → Terms → Term
+pattern abbrev pub Call : Primitive → Terms → Term
 Call p ts = node (Form.named (Named.prim p)) ts
 
 pattern abbrev pub Act : Action → Terms → Term

@@ -2,3 +2,6 @@
 #![tactic(auto)]
 
 pub mod laws;
+pub mod term;
+
+pub use term::{Branch, Case, ConId, Delete, IoKind, Term, TermError};
