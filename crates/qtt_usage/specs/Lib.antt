@@ -1,2 +1,3 @@
 pub mod Mult
+pub mod Usage
 pub mod Uses

@@ -76,3 +76,22 @@ mult_discrete One Many = no (λ e. equal_are_same One Many e)
 mult_discrete Many Zero = no (λ e. equal_are_same Many Zero e)
 mult_discrete Many One = no (λ e. equal_are_same Many One e)
 mult_discrete Many Many = yes refl
+
+-- worked examples
+used_twice : 𝟙 ⊕ 𝟙 ≡ ω
+used_twice = refl
+
+erased_use_of_many : 𝟘 ⊙ ω ≡ 𝟘
+erased_use_of_many = refl
+
+used_in_one_branch : join 𝟙 𝟘 ≡ ω
+used_in_one_branch = refl
+
+used_in_each_branch : join 𝟙 𝟙 ≡ 𝟙
+used_in_each_branch = refl
+
+unused_is_not_linear : fits 𝟘 𝟙 ≡ false
+unused_is_not_linear = refl
+
+unused_fits_many : fits 𝟘 ω ≡ true
+unused_fits_many = refl

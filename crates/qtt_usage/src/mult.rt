@@ -4,8 +4,9 @@ ghost use Rattle.std.specs.Prelude.{◌≡◌};
 ghost use Rattle.qtt_usage.specs.Mult.{◌⊕◌, ◌⊙◌, join, fits};
 
 /// How often a variable may be used, or is used (Atkey 2018; McBride 2016).
-#[derive(Clone, Copy, Debug, PartialEq, Eq)]
+#[derive(Clone, Copy, Debug, Default, PartialEq, Eq)]
 pub enum Mult {
+    #[default]
     Zero,
     One,
     Many,
@@ -49,5 +50,27 @@ impl Mult {
         ensures { result ≡ fits used declared }
     {
         declared == Mult::Many || used == declared
+    }
+}
+
+#[cfg(test)]
+mod tests {
+    use super::*;
+    use Mult::{Many, One, Zero};
+
+    #[test]
+    fn tables(rt: HostRuntime) {
+        for q in [Zero, One, Many] {
+            assert_eq!(rt; Zero.add(q), q);
+            assert_eq!(rt; Zero.mul(q), Zero);
+            assert_eq!(rt; One.mul(q), q);
+            assert_eq!(rt; q.join(q), q);
+            assert!(rt; Mult::fits(q, q));
+            assert!(rt; Mult::fits(q, Many));
+        }
+        assert_eq!(rt; One.add(One), Many);
+        assert_eq!(rt; Zero.join(One), Many);
+        assert!(rt; !Mult::fits(Zero, One));
+        assert!(rt; !Mult::fits(Many, One));
     }
 }
