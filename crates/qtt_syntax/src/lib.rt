@@ -1,0 +1,10 @@
+//! Trees of module texts.
+#![tactic(auto)]
+
+mod expr;
+mod module;
+mod pattern;
+
+pub use expr::{Argument, Binder, Expr, Local, Mark, Named, Statement, Target};
+pub use module::{Clause, ConDecl, FamilyDecl, Import, Item, ModuleText, Param, SignatureDecl};
+pub use pattern::Pattern;
