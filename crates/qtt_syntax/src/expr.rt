@@ -106,22 +106,26 @@ pub enum Expr {
     },
 }
 
-/// An argument of an application.
+/// An argument of an application, by how it came into the tree.
 #[cycle(tree)]
 #[derive(Debug, Drop)]
-pub struct Argument {
-    pub mark: Mark,
-    pub value: Expr,
+pub enum Argument {
+    Written(Expr),
+    Braced(Expr),
+    Inserted(Expr),
 }
 
-/// A binder of a `\`, whose multiplicity is many where it has no type.
+/// A binder of a `\`.
 #[cycle(tree)]
 #[derive(Debug, Drop)]
-pub struct Binder {
-    pub mult: Mult,
-    pub name: Name,
-    pub ty: Option<Box<Expr>>,
-    pub span: Span,
+pub enum Binder {
+    Plain(Local),
+    Typed {
+        mult: Mult,
+        name: Local,
+        ty: Expr,
+        span: Span,
+    },
 }
 
 /// A statement of a `do`.
@@ -129,7 +133,10 @@ pub struct Binder {
 #[derive(Debug, Drop)]
 pub enum Statement {
     /// `x <- e`
-    Bind { name: Local, value: Expr },
+    Bind {
+        name: Local,
+        value: Expr,
+    },
     /// `let x : T = e`
     Let {
         mult: Mult,

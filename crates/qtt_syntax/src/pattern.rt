@@ -12,7 +12,10 @@ pub enum Pattern {
         span: Span,
     },
     /// `_`
-    Wildcard { mark: Mark, span: Span },
+    Wildcard {
+        mark: Mark,
+        span: Span,
+    },
     /// A constructor with the patterns of its fields.
     Constructor {
         mark: Mark,
@@ -21,5 +24,9 @@ pub enum Pattern {
         span: Span,
     },
     /// `.(e)`
-    Dot { mark: Mark, value: Expr, span: Span },
+    Dot {
+        mark: Mark,
+        value: Expr,
+        span: Span,
+    },
 }
