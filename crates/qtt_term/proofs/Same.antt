@@ -8,8 +8,8 @@ use mathlib.Core.Path.{ap₂}
 use Rattle.qtt_base.specs.declared.place.GlobalId.{GlobalId}
 use Rattle.qtt_usage.specs.declared.mult.Mult.{Mult}
 use Rattle.qtt_usage.specs.Mult.{same_mult, 𝟘, 𝟙, ω}
-use Rattle.qtt_prims.specs.declared.prim.Prim.{Prim}
-use Rattle.qtt_prims.specs.declared.prim.Prim.TheVariants as prim
+use Rattle.qtt_prims.specs.declared.prim.Primitive.{Primitive}
+use Rattle.qtt_prims.specs.declared.prim.Primitive.TheVariants as prim
 use Rattle.qtt_prims.specs.declared.lit.Lit.{Lit}
 use Rattle.qtt_prims.specs.declared.lit.Lit.TheVariants as literal
 use Rattle.qtt_term.specs.Term.{Io, PrimTy, Action, Named, Form, Term, Terms, var, node, ε, ◌▸◌, same_id}
@@ -72,7 +72,7 @@ prim_ty-same (PrimTy.io_of m) = io-same m
 pub same_prim_ty-exact : (p r : PrimTy) → Decides (same_prim_ty p r) (p ≡ r)
 same_prim_ty-exact p r = decided same_prim_ty same_prim_ty-is prim_ty-same p r
 
-same_prim-is : (p r : Prim) → same_prim p r ≡ true → p ≡ r
+same_prim-is : (p r : Primitive) → same_prim p r ≡ true → p ≡ r
 same_prim-is prim.AddInt prim.AddInt e = refl
 same_prim-is prim.SubInt prim.SubInt e = refl
 same_prim-is prim.MulInt prim.MulInt e = refl
@@ -85,7 +85,7 @@ same_prim-is prim.EqString prim.EqString e = refl
 same_prim-is prim.ShowInt prim.ShowInt e = refl
 same_prim-is _ _ e = absurd (cc e)
 
-prim-same : (p : Prim) → same_prim p p ≡ true
+prim-same : (p : Primitive) → same_prim p p ≡ true
 prim-same prim.AddInt = refl
 prim-same prim.SubInt = refl
 prim-same prim.MulInt = refl
@@ -97,7 +97,7 @@ prim-same prim.AppendString = refl
 prim-same prim.EqString = refl
 prim-same prim.ShowInt = refl
 
-pub same_prim-exact : (p r : Prim) → Decides (same_prim p r) (p ≡ r)
+pub same_prim-exact : (p r : Primitive) → Decides (same_prim p r) (p ≡ r)
 same_prim-exact p r = decided same_prim same_prim-is prim-same p r
 
 same_action-is : (a b : Action) → same_action a b ≡ true → a ≡ b

@@ -1,0 +1,5 @@
+pub mod Root
+pub mod Parallel
+pub mod Coherent
+pub mod Confluence
+pub mod Facts
