@@ -2,7 +2,6 @@
 use Rattle.std.proofs.Common.{◌≡◌, ℕ, zero, suc, Bool, true, false, List, [], ◌∷◌, refl, sym, ap, ◌∙◌, subst, Some}
 use Rattle.qtt_base.specs.declared.place.GlobalId.{GlobalId}
 use Rattle.qtt_usage.specs.declared.mult.Mult.{Mult}
-use Rattle.qtt_prims.specs.declared.prim.Primitive.{Primitive}
 use Rattle.qtt_prims.specs.declared.lit.Lit.{Lit}
 use Rattle.qtt_prims.specs.declared.answer.PrimAnswer.{PrimAnswer}
 use Rattle.qtt_prims.specs.declared.answer.PrimAnswer.TheVariants as answer
