@@ -1,8 +1,28 @@
 //! Laws of the definitions. Each function does nothing: its contract is the law.
 
-ghost use Rattle.qtt_term.specs.Laws.{SubstitutionLaws};
+ghost use Rattle.qtt_term.specs.Laws.{SubstitutionLaws, ValuesAreKept, FullStepsContract, StepsKeepClosed, TapesAreOfEvents};
 
 /// Simultaneous substitutions compose, keep what they do not mention, and commute with renaming.
 pub fn substitution_laws()
     ensures { SubstitutionLaws }
+{}
+
+/// The terms that full evaluation keeps are exactly the values.
+pub fn values_are_kept()
+    ensures { ValuesAreKept }
+{}
+
+/// Each full step is a contraction.
+pub fn full_steps_contract()
+    ensures { FullStepsContract }
+{}
+
+/// No contraction brings a free variable into a term.
+pub fn steps_keep_closed()
+    ensures { StepsKeepClosed }
+{}
+
+/// The tapes at the end of a run are those of its events, also where it trapped and closed its open tapes.
+pub fn tapes_are_of_events()
+    ensures { TapesAreOfEvents }
 {}
