@@ -6,3 +6,5 @@ pub mod Options
 pub mod Evaluation
 pub mod Output
 pub mod Scope
+pub mod Rows
+pub mod PrimFormed

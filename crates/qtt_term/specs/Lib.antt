@@ -12,3 +12,6 @@ pub mod Environment
 pub mod Question
 pub mod Laws
 pub mod View
+pub mod PrimEnvironment
+pub mod Programs
+pub mod Rows

@@ -1,6 +1,7 @@
 //! Core terms: their definitions, their laws, and the types that hold them.
 #![tactic(auto)]
 
+pub mod examples;
 pub mod laws;
 pub mod term;
 

@@ -1,0 +1,54 @@
+-- The worked examples, computed.
+use Rattle.std.proofs.Common.{refl}
+use Rattle.std.specs.Fmt.{digits}
+use Rattle.std.specs.Str.{is_utf8, chars}
+use lib.Utf8.{encode}
+use Rattle.qtt_term.specs.Contraction.{contract}
+use Rattle.qtt_term.specs.Question.{same_form}
+use Rattle.qtt_term.specs.Rows.{RunRows, QuestionRows}
+
+pub run_rows_hold : RunRows
+unfolding contract digits is_utf8 chars encode
+run_rows_hold = record {
+  hello_ends = refl;
+  hello_in_two = refl;
+  hello_in_one = refl;
+  identity_ends = refl;
+  loops_in_five = refl;
+  loops_in_four = refl;
+  forever_in_ten = refl;
+  zero_first = refl;
+  zero_in_one = refl;
+  no_clause_first = refl;
+  handles_end = refl;
+  handles_in_thirteen = refl;
+  trapping_in_five = refl;
+  trapping_in_four = refl;
+  echo_of_a = refl;
+  echo_ends = refl;
+  echo_of_nothing = refl;
+  echo_of_no_text = refl;
+  least_by_minus_one = refl;
+  greatest_and_one = refl;
+  boxed_ends = refl;
+  deletes_ends = refl;
+}
+
+pub question_rows_hold : QuestionRows
+unfolding contract same_form
+question_rows_hold = record {
+  sum_at_none = refl;
+  sum_at_one = refl;
+  division_at_none = refl;
+  misapplied_is_a_head = refl;
+  case_in_two = refl;
+  case_in_one = refl;
+  delete_in_one = refl;
+  delete_in_none = refl;
+  plus_at_four = refl;
+  plus_at_three = refl;
+  aliases_at_eleven = refl;
+  aliases_at_ten = refl;
+  circles_at_ten = refl;
+  texts_are_no_numbers = refl;
+}

@@ -1,0 +1,92 @@
+-- Worked examples of runs, heads and questions.
+use Rattle.std.specs.Prelude.{◌≡◌, ℕ, pos, negsuc, List, [], ◌∷◌, codes, Bool, false, true, ◌++◌}
+use Rattle.qtt_usage.specs.Mult.{𝟙, ω}
+use Rattle.qtt_term.specs.Term.{Form, Term, var, node, ε, ◌▸◌, Lam, App, Delete, Def, IntLit}
+use Rattle.qtt_term.specs.Signature.{bool_id, BoolTy, truth, IntTy, StringTy, Refl}
+use Rattle.qtt_term.specs.FullStep.{Cause}
+use Rattle.qtt_term.specs.FullRun.{Event, Taped, Verdict, Run, full}
+use Rattle.qtt_term.specs.Question.{Head, head, Answer, compare}
+use Rattle.qtt_term.specs.PrimEnvironment.{prim_env}
+use Rattle.qtt_term.specs.Programs.{item, hello, identity, loops, forever, partial_no, one_by_zero, no_of_false, handles, trapping, echo, shows, boxed, deletes, divided, added, s, plus, naturals, aliases, circles}
+
+-- what a run shows
+pub record Shown : Type 0 where
+  pub verdict : Verdict
+  pub count : ℕ
+  pub events : List Event
+  pub tapes : List Taped
+
+abbrev pub shown : Run → Shown
+shown r = record { verdict = r.verdict; count = r.count; events = r.last.events; tapes = r.last.tapes }
+
+abbrev pub shows_so : Verdict → ℕ → List Event → List Taped → Shown
+shows_so v n es ts = record { verdict = v; count = n; events = es; tapes = ts }
+
+abbrev pub tape_a : Bool → List (List ℕ) → List Taped
+tape_a b ls = record { name = codes "a"; lines = ls; is_open = b } ∷ []
+
+-- a default of 10,000,000 contractions
+abbrev pub default_steps : ℕ
+default_steps = 10000000
+
+abbrev pub handle_events : List Event
+handle_events = Event.opened (codes "a") ∷ Event.wrote 0 (codes "x") ∷ Event.wrote 0 (codes "y") ∷ []
+
+pub record RunRows : Type 0 where
+  pub hello_ends : shown (full default_steps hello (item 0) []) ≡ shows_so Verdict.ended 2 (Event.line (codes "hello") ∷ []) []
+  pub hello_in_two : shown (full 2 hello (item 0) []) ≡ shows_so Verdict.ended 2 (Event.line (codes "hello") ∷ []) []
+  pub hello_in_one : shown (full 1 hello (item 0) []) ≡ shows_so Verdict.running 1 [] []
+  pub identity_ends : shown (full default_steps identity (item 1) []) ≡ shows_so Verdict.ended 5 (Event.line (codes "3") ∷ []) []
+  -- a 0 argument that loops is never evaluated
+  pub loops_in_five : shown (full 5 loops (item 2) []) ≡ shows_so Verdict.ended 5 (Event.line (codes "ok") ∷ []) []
+  pub loops_in_four : shown (full 4 loops (item 2) []) ≡ shows_so Verdict.running 4 [] []
+  pub forever_in_ten : shown (full 10 forever (item 1) []) ≡ shows_so Verdict.running 10 (Event.line (codes "x") ∷ Event.line (codes "x") ∷ []) []
+  -- the left argument traps first
+  pub zero_first : shown (full default_steps (partial_no one_by_zero no_of_false) (item 1) []) ≡ shows_so (Verdict.trapped Cause.division_by_zero) 1 [] []
+  pub zero_in_one : shown (full 1 (partial_no one_by_zero no_of_false) (item 1) []) ≡ shows_so (Verdict.trapped Cause.division_by_zero) 1 [] []
+  pub no_clause_first : shown (full default_steps (partial_no no_of_false one_by_zero) (item 1) []) ≡ shows_so (Verdict.trapped Cause.missing_clause) 4 [] []
+  pub handles_end : shown (full default_steps handles (item 0) []) ≡ shows_so Verdict.ended 14 (handle_events ++ Event.closed_tape 0 ∷ []) (tape_a false (codes "x" ∷ codes "y" ∷ []))
+  pub handles_in_thirteen : shown (full 13 handles (item 0) []) ≡ shows_so Verdict.running 13 handle_events (tape_a true (codes "x" ∷ codes "y" ∷ []))
+  -- a run that traps closes its open tapes
+  pub trapping_in_five : shown (full 5 trapping (item 0) []) ≡ shows_so (Verdict.trapped Cause.division_by_zero) 5 (Event.opened (codes "a") ∷ Event.closed_tape 0 ∷ []) (tape_a false [])
+  pub trapping_in_four : shown (full 4 trapping (item 0) []) ≡ shows_so Verdict.running 4 (Event.opened (codes "a") ∷ []) (tape_a true [])
+  pub echo_of_a : (shown (full default_steps echo (item 1) (codes "a"))).events ≡ Event.line (codes "a") ∷ []
+  pub echo_ends : (shown (full default_steps echo (item 1) (codes "a"))).verdict ≡ Verdict.ended
+  pub echo_of_nothing : (shown (full default_steps echo (item 1) [])).verdict ≡ Verdict.ended
+  pub echo_of_no_text : (shown (full default_steps echo (item 1) (255 ∷ 10 ∷ []))).verdict ≡ Verdict.trapped Cause.bad_input_line
+  pub least_by_minus_one : (shown (full default_steps (shows (divided (IntLit (negsuc 9223372036854775807)) (IntLit (negsuc 0)))) (item 0) [])).events ≡ Event.line (codes "-9223372036854775808") ∷ []
+  pub greatest_and_one : (shown (full default_steps (shows (added (IntLit (pos 9223372036854775807)) (IntLit (pos 1)))) (item 0) [])).events ≡ Event.line (codes "-9223372036854775808") ∷ []
+  -- a field at 0 that would trap is kept
+  pub boxed_ends : shown (full default_steps boxed (item 4) []) ≡ shows_so Verdict.ended 5 (Event.line (codes "boxed") ∷ []) []
+  pub deletes_ends : shown (full default_steps deletes (item 1) []) ≡ shows_so Verdict.ended 8 (Event.line (codes "1") ∷ []) []
+
+-- (\(x : Int) => x), applied at 1 though it is a function at many
+abbrev pub misapplied : Term
+misapplied = App 𝟙 (Lam ω IntTy (var 0)) (IntLit (pos 3))
+
+-- case (id at many) True of False => 0; True => 1
+abbrev pub case_of_true : Term
+case_of_true = node (Form.case ω bool_id 0 1 (0 ∷ 0 ∷ [])) (IntTy ▸ IntLit (pos 0) ▸ IntLit (pos 1) ▸ App ω (Lam ω BoolTy (var 0)) (truth true) ▸ ε)
+
+abbrev pub delete_of_refl : Term
+delete_of_refl = Delete ω IntTy (IntLit (pos 3)) IntTy (IntLit (pos 1)) (Refl IntTy (IntLit (pos 3)))
+
+abbrev pub one_and_two : Term
+one_and_two = added (IntLit (pos 1)) (IntLit (pos 2))
+
+pub record QuestionRows : Type 0 where
+  pub sum_at_none : compare prim_env 0 one_and_two (IntLit (pos 3)) ≡ Answer.spent
+  pub sum_at_one : compare prim_env 1 one_and_two (IntLit (pos 3)) ≡ Answer.equal
+  pub division_at_none : compare prim_env 0 one_by_zero (IntLit (pos 0)) ≡ Answer.different []
+  pub misapplied_is_a_head : head prim_env 1 misapplied ≡ Head.done misapplied 0
+  pub case_in_two : head prim_env 2 case_of_true ≡ Head.done (IntLit (pos 1)) 2
+  pub case_in_one : head prim_env 1 case_of_true ≡ Head.spent
+  pub delete_in_one : head prim_env 1 delete_of_refl ≡ Head.done (IntLit (pos 1)) 1
+  pub delete_in_none : head prim_env 0 delete_of_refl ≡ Head.spent
+  -- plus (S n) m and S (plus n m): delta, beta, beta, iota
+  pub plus_at_four : compare naturals 4 (plus (s (var 1)) (var 0)) (s (plus (var 1) (var 0))) ≡ Answer.equal
+  pub plus_at_three : compare naturals 3 (plus (s (var 1)) (var 0)) (s (plus (var 1) (var 0))) ≡ Answer.spent
+  pub aliases_at_eleven : compare (aliases 11) 11 IntTy (Def (item 10)) ≡ Answer.equal
+  pub aliases_at_ten : compare (aliases 11) 10 IntTy (Def (item 10)) ≡ Answer.spent
+  pub circles_at_ten : compare circles 10 (Def (item 1)) (Def (item 0)) ≡ Answer.spent
+  pub texts_are_no_numbers : compare prim_env 0 StringTy IntTy ≡ Answer.different []

@@ -1,0 +1,22 @@
+//! What the definitions say of small programs, of the module Prim and of its families. Each function does nothing: its contract is
+//! what was computed or proved.
+
+ghost use Rattle.qtt_term.specs.Rows.{RunRows, QuestionRows};
+ghost use Rattle.qtt_term.specs.Environment.{WellFormed, Complete};
+ghost use Rattle.qtt_term.specs.PrimEnvironment.{prim_env};
+
+/// Runs of small programs, with their verdicts, counts, events and tapes.
+pub fn runs_as_worked()
+    ensures { RunRows }
+{}
+
+/// Heads and questions at their exact counts.
+pub fn questions_as_worked()
+    ensures { QuestionRows }
+{}
+
+/// The module Prim is well formed, and no definition of it lacks a body.
+pub fn prim_is_well_formed()
+    ensures formed { WellFormed prim_env }
+    ensures complete { Complete prim_env }
+{}
