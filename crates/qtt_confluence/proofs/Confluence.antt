@@ -1,10 +1,11 @@
 -- Two convertible terms contract to a common term, and a form that never contracts stays.
 use Rattle.std.proofs.Common.{◌≡◌, ℕ, zero, suc, List, refl, sym, ◌∙◌, ap, subst, None}
 use Rattle.qtt_term.specs.Term.{Form, binders, first, rest, Term, Terms, var, node, ε, ◌▸◌}
-use Rattle.qtt_term.specs.Substitution.{sub, subs, lift, lifts, cons, inst}
+use Rattle.qtt_term.specs.Substitution.{sub, subs, lift, lifts, cons, push, inst}
 use Rattle.qtt_term.specs.Signature.{Env}
 use Rattle.qtt_term.specs.Contraction.{BodiesClosed, contract, Step, Steps, Reduces, Conv}
 use Rattle.qtt_term.proofs.Subst.{ren-is-sub}
+use Rattle.qtt_confluence.specs.Injective.{Convs}
 use Rattle.qtt_confluence.proofs.Root.{none≢some}
 use Rattle.qtt_confluence.proofs.Parallel.{Par, Pars, ParMany, par_many-join, par-refl, pars-refl, confluent}
 use Rattle.qtt_confluence.proofs.Coherent.{stable, coherent}
@@ -75,10 +76,6 @@ pub confluence : (E : Env) → BodiesClosed E → (t s : Term) → Conv E t s �
 confluence E closed t s h = let m = conv-meet closed h in (m.0, many-reduces m.1, many-reduces m.2)
 
 -- ---- convertible components
-pub data Convs (E : Env) : Terms → Terms → Type 0 where
-  none : Convs E ε ε
-  more : {t s : Term} {ts ss : Terms} → Conv E t s → Convs E ts ss → Convs E (t ▸ ts) (s ▸ ss)
-
 pub convs-same : {E : Env} (ts : Terms) → Convs E ts ts
 convs-same ε = Convs.none
 convs-same (t ▸ ts) = Convs.more Conv.same (convs-same ts)
@@ -195,3 +192,12 @@ conv-inst {E} closed {a} {b} B h = conv-fill closed B (cons a var) (cons b var) 
     go : (i : ℕ) → Conv E (cons a var i) (cons b var i)
     go zero = h
     go (suc i) = Conv.same
+
+-- convertible terms, pushed
+pub push-conv : {E : Env} {ts ss : Terms} → Convs E ts ss → (σ τ : ℕ → Term) → ((i : ℕ) → Conv E (σ i) (τ i)) → (i : ℕ) → Conv E (push ts σ i) (push ss τ i)
+push-conv Convs.none σ τ h = h
+push-conv {E} (Convs.more {t = t} {s = s} c k) σ τ h = push-conv k (cons t σ) (cons s τ) go
+  where
+    go : (i : ℕ) → Conv E (cons t σ i) (cons s τ i)
+    go zero = c
+    go (suc i) = h i
