@@ -4,7 +4,9 @@ use Rattle.qtt_base.specs.declared.place.GlobalId.{GlobalId}
 use Rattle.qtt_term.specs.Term.{Io, Action, Term, ε, ◌▸◌, Act, Tape, TextLit}
 use Rattle.qtt_term.specs.Signature.{Env}
 use Rattle.qtt_term.specs.FullStep.{Outcome, full_step}
-use Rattle.qtt_term.specs.FullRun.{Event, Taped, Config, Verdict, Turn, Run, at_open, changed, with_line, shut, tape_list, is_line, line_of, resume, read, use_tape, perform, take_turn, turn, closes_from, all_shut, at_end, stopped, going, run_on, start, full}
+use Rattle.qtt_term.specs.FullRun.{Event, Config, Verdict, Turn, Run, at_open, tape_list, resume, read, use_tape, perform, take_turn, turn, closes_from, all_shut, at_end, stopped, going, run_on, start, full}
+use Rattle.qtt_prims.specs.Lines.{is_line, line_of}
+use Rattle.qtt_prims.specs.Tapes.{Taped, changed, with_line, shut}
 use Rattle.qtt_term.proofs.Options.{none≢some, some-injective, chain-some, cond-some}
 
 abbrev Told : Config → Type 0

@@ -1,7 +1,8 @@
 -- Full runs: what a main does to the lines of its input, the lines of its output and the tapes (open file handles).
-use Rattle.std.specs.Prelude.{ℕ, zero, suc, ltb, List, [], ◌∷◌, ◌++◌, length, Option, Some, None, Bool, true, false, cond, ◌==◌}
-use Rattle.std.specs.Str.{is_utf8}
+use Rattle.std.specs.Prelude.{ℕ, zero, suc, List, [], ◌∷◌, ◌++◌, length, Option, Some, None, cond}
 use Rattle.qtt_base.specs.declared.place.GlobalId.{GlobalId}
+use Rattle.qtt_prims.specs.Lines.{line_of, after_line, is_line}
+use Rattle.qtt_prims.specs.Tapes.{Taped, new_tape, with_line, shut, changed}
 use Rattle.qtt_term.specs.Term.{Io, Action, Term, ε, ◌▸◌, App, Def, TextLit, Act, Tape}
 use Rattle.qtt_term.specs.Signature.{Env, UnitTy, MkUnit, LineTy, Eof, Got, HandleTy, mult_of}
 use Rattle.qtt_term.specs.Contraction.{chain}
@@ -12,11 +13,6 @@ pub data Event : Type 0 where
   opened : List ℕ → Event
   wrote : ℕ → List ℕ → Event
   closed_tape : ℕ → Event
-
-pub record Taped : Type 0 where
-  pub name : List ℕ
-  pub lines : List (List ℕ)
-  pub is_open : Bool
 
 -- a term, the continuations that wait (the newest first), the rest of the input, the events so far, and the tapes by their numbers
 pub record Config : Type 0 where
@@ -37,19 +33,6 @@ pub data Turn : Type 0 where
   goes : Config → Turn
   halts : Verdict → Turn
 
--- ---- lines of the input: each ends by byte 10, and the last one needs none
-abbrev pub line_of : List ℕ → List ℕ
-line_of [] = []
-line_of (b ∷ bs) = cond (b == 10) [] (b ∷ line_of bs)
-
-abbrev pub after_line : List ℕ → List ℕ
-after_line [] = []
-after_line (b ∷ bs) = cond (b == 10) bs (after_line bs)
-
--- at most 65,536 bytes of UTF-8
-abbrev pub is_line : List ℕ → Bool
-is_line bs = cond (ltb 65536 (length bs)) false (is_utf8 bs)
-
 -- ---- what an action gives
 abbrev pub pure_unit : Term
 pure_unit = Act (Action.pure Io.io) (UnitTy ▸ MkUnit ▸ ε)
@@ -61,15 +44,6 @@ abbrev pub pure_line : Term → Term
 pure_line l = Act (Action.pure Io.io) (LineTy ▸ l ▸ ε)
 
 -- ---- tapes
-abbrev pub new_tape : List ℕ → Taped
-new_tape s = record { name = s; lines = []; is_open = true }
-
-abbrev pub with_line : List ℕ → Taped → Taped
-with_line s t = record t { lines = t.lines ++ s ∷ [] }
-
-abbrev pub shut : Taped → Taped
-shut t = record t { is_open = false }
-
 -- the tape of this number, changed, where it is open
 abbrev pub at_open : ℕ → (Taped → Taped) → List Taped → Option (List Taped)
 at_open h g [] = None
@@ -162,11 +136,6 @@ text_of (Event.line s ∷ es) = s ++ 10 ∷ text_of es
 text_of (Event.opened s ∷ es) = text_of es
 text_of (Event.wrote h s ∷ es) = text_of es
 text_of (Event.closed_tape h ∷ es) = text_of es
-
-abbrev pub changed : ℕ → (Taped → Taped) → List Taped → List Taped
-changed h g [] = []
-changed zero g (t ∷ ts) = g t ∷ ts
-changed (suc h) g (t ∷ ts) = t ∷ changed h g ts
 
 -- each opened number with its name, its lines and whether it is open, after these tapes
 abbrev pub tape_list : List Taped → List Event → List Taped

@@ -4,7 +4,8 @@ use Rattle.qtt_usage.specs.Mult.{𝟙, ω}
 use Rattle.qtt_term.specs.Term.{Form, Term, var, node, ε, ◌▸◌, Lam, App, Delete, Def, IntLit}
 use Rattle.qtt_term.specs.Signature.{bool_id, BoolTy, truth, IntTy, StringTy, Refl}
 use Rattle.qtt_term.specs.FullStep.{Cause}
-use Rattle.qtt_term.specs.FullRun.{Event, Taped, Verdict, Run, full}
+use Rattle.qtt_term.specs.FullRun.{Event, Verdict, Run, full}
+use Rattle.qtt_prims.specs.Tapes.{Taped}
 use Rattle.qtt_term.specs.Question.{Head, head, Answer, compare}
 use Rattle.qtt_term.specs.PrimEnvironment.{prim_env}
 use Rattle.qtt_term.specs.Programs.{item, hello, identity, loops, forever, partial_no, one_by_zero, no_of_false, handles, trapping, echo, shows, boxed, deletes, divided, added, s, plus, naturals, aliases, circles}
