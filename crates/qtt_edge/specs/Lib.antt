@@ -1,0 +1,9 @@
+pub mod ByteSink
+pub mod ByteSource
+pub mod Counts
+pub mod MapVault
+pub mod Sink
+pub mod Source
+pub mod TapeRack
+pub mod Tapes
+pub mod Vault

@@ -1,0 +1,25 @@
+//! The outside as traits: where module texts come from, input, output, tapes, and the gate of a build's workers.
+//!
+//! Each trait has meanings that contracts see: content, which some objects tell and others do not, and counts
+//! of faults. The types of `memory` tell their content; the adapters of the real thing tell nothing of it.
+#![tactic(auto)]
+
+pub mod counts;
+pub mod gate;
+pub mod memory;
+pub mod plan;
+pub mod sink;
+pub mod source;
+pub mod tapes;
+pub mod vault;
+
+pub use gate::{Gate, OpenGate};
+pub use memory::byte_sink::ByteSink;
+pub use memory::byte_source::ByteSource;
+pub use memory::map_vault::MapVault;
+pub use memory::tape_rack::TapeRack;
+pub use plan::{FailingCalls, FailingPut, FailingPuts, FailurePlan, NeverFails};
+pub use sink::{Sink, SinkError};
+pub use source::{Source, SourceError};
+pub use tapes::{TapeError, Tapes};
+pub use vault::{Vault, VaultError};

@@ -1,0 +1,46 @@
+//! Tapes: files that a program opens, writes line by line and closes.
+
+ghost use Rattle.std.specs.Prelude.{◌≡◌, ◌+◌, ◌-◌, ◌^◌, ◌<◌, ◌++◌, ◌∷◌, [], ℕ, List, Option, length, option_map, IfOk, IfSome, OnOk, OnErr, IsErrOf};
+ghost use Rattle.std.specs.Option.{ForSome};
+ghost use Rattle.qtt_prims.specs.Tapes.{Taped, new_tape, with_line, shut, changed};
+ghost use Rattle.qtt_edge.specs.Counts.{Counts};
+ghost use Rattle.qtt_edge.specs.Tapes.{IsOpenAt, KeepsOthers};
+
+use thiserror::Error;
+
+#[derive(Clone, Copy, Debug, PartialEq, Eq, Error)]
+pub enum TapeError {
+    #[error("a tape failed")]
+    Failed,
+    #[error("out of memory")]
+    Memory,
+}
+
+/// Numbered tapes. Which there are is told by some implementations alone.
+pub trait Tapes {
+    ghost tapes: { Self → Option (List Taped) };
+
+    ghost faults: { Self → ℕ };
+
+    /// Opens a tape, and answers its number.
+    fn create(&mut self, name: &str) -> Result<u32, TapeError>
+        requires { ForSome (tapes self.old) (λ all. length all < 2 ^ 32 - 1) }
+        ensures number { IfOk result (λ number. IfSome (tapes self.old) (λ all. number ≡ length all)) }
+        ensures ok { OnOk result (tapes self.new ≡ option_map (λ all. all ++ new_tape name.now ∷ []) (tapes self.old)) }
+        ensures err { OnErr result (tapes self.new ≡ tapes self.old) }
+        ensures failed { Counts (faults self.old) (faults self.new) (IsErrOf result TapeError.Failed) };
+
+    /// Adds a line to an open tape.
+    fn append(&mut self, number: u32, text: &str) -> Result<(), TapeError>
+        requires { ForSome (tapes self.old) (IsOpenAt number) }
+        ensures ok { OnOk result (tapes self.new ≡ option_map (changed number (with_line text.now)) (tapes self.old)) }
+        ensures err { OnErr result (KeepsOthers number (tapes self.old) (tapes self.new)) }
+        ensures failed { Counts (faults self.old) (faults self.new) (IsErrOf result TapeError.Failed) };
+
+    /// Closes an open tape.
+    fn close(&mut self, number: u32) -> Result<(), TapeError>
+        requires { ForSome (tapes self.old) (IsOpenAt number) }
+        ensures ok { OnOk result (tapes self.new ≡ option_map (changed number shut) (tapes self.old)) }
+        ensures err { OnErr result (KeepsOthers number (tapes self.old) (tapes self.new)) }
+        ensures failed { Counts (faults self.old) (faults self.new) (IsErrOf result TapeError.Failed) };
+}
