@@ -4,4 +4,9 @@ pub mod Coherent
 pub mod Confluence
 pub mod Injective
 pub mod Families
+pub mod Heads
+pub mod Compare
+pub mod HeadCount
+pub mod Count
+pub mod Examples
 pub mod Facts

@@ -1,8 +1,13 @@
 -- The laws that the functions of this crate ensure.
+use Rattle.std.specs.Prelude.{◌≡◌, ◌≢◌, ◌↔◌, ℕ, suc, ◌≤◌, List}
 use Rattle.qtt_term.specs.Term.{Term}
 use Rattle.qtt_term.specs.Signature.{Env}
 use Rattle.qtt_term.specs.Contraction.{Reduces, Conv, BodiesClosed}
-use Rattle.qtt_confluence.specs.Injective.{Injective}
+use Rattle.qtt_term.specs.Question.{Head, head, Item, Answer, within_count, compare}
+use Rattle.qtt_confluence.specs.Injective.{Convs, Injective}
+use Rattle.qtt_confluence.specs.Heads.{IsHead, Toward, outline, parts}
+use Rattle.qtt_confluence.specs.Comparison.{Compared}
+use Rattle.qtt_confluence.specs.Examples.{ConversionTells, TwoWays, ComparisonTells}
 
 -- two convertible terms contract to a common term
 abbrev pub ContractionIsConfluent : Type 0
@@ -10,3 +15,35 @@ ContractionIsConfluent = (E : Env) → BodiesClosed E → (t s : Term) → Conv 
 
 abbrev pub TypesAreInjective : Type 0
 TypesAreInjective = (E : Env) → BodiesClosed E → Injective E
+
+-- two heads with different forms or fixed parts are not convertible
+abbrev pub RigidHeadsDiffer : Type 0
+RigidHeadsDiffer =
+    (E : Env) → BodiesClosed E → (t s : Term) → IsHead E t → IsHead E s → outline t ≢ outline s → Conv E t s → ⊥
+
+-- two convertible heads have one outline and convertible components
+abbrev pub ConvertibleHeadsAgree : Type 0
+ConvertibleHeadsAgree =
+    (E : Env) → BodiesClosed E → (t s : Term) → IsHead E t → IsHead E s → Conv E t s → (outline t ≡ outline s) × Convs E (parts t) (parts s)
+
+-- within n contractions there is the head that so many of them lead to, at most n, or n + 1 can be made
+pub record HeadIsExact : Type 0 where
+  pub found : (E : Env) (n k : ℕ) (t h : Term) → (head E n t ≡ Head.done h k) ↔ (Toward E k t h × IsHead E h × (k ≤ n))
+  pub spent : (E : Env) (n : ℕ) (t : Term) → (head E n t ≡ Head.spent) ↔ ((s : Term) × Toward E (suc n) t s)
+  -- a term contracts to its head
+  pub reduces : (E : Env) (n k : ℕ) (t h : Term) → head E n t ≡ Head.done h k → Reduces E t h
+
+-- the count alone limits a comparison, and an answer stands under each greater count
+pub record CountAloneLimits : Type 0 where
+  pub exact : (E : Env) (n : ℕ) (is : List Item) (a : Answer) → (within_count E n is ≡ a) ↔ Compared E n is a
+  pub stands : (E : Env) (n m : ℕ) (t s : Term) → n ≤ m → compare E n t s ≢ Answer.spent → compare E m t s ≡ compare E n t s
+
+abbrev pub EqualIsConvertible : Type 0
+EqualIsConvertible = (E : Env) (n : ℕ) (t s : Term) → compare E n t s ≡ Answer.equal → Conv E t s
+
+abbrev pub DifferentIsApart : Type 0
+DifferentIsApart = (E : Env) → BodiesClosed E → (n : ℕ) (t s : Term) (path : List ℕ) → compare E n t s ≡ Answer.different path → Conv E t s → ⊥
+
+-- the laws speak of something
+abbrev pub DefinitionsTell : Type 0
+DefinitionsTell = (E : Env) → BodiesClosed E → ConversionTells E × TwoWays E × ComparisonTells E

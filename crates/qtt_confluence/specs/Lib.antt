@@ -1,2 +1,5 @@
 pub mod Injective
+pub mod Heads
+pub mod Comparison
+pub mod Examples
 pub mod Laws
