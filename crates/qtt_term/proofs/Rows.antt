@@ -5,7 +5,9 @@ use Rattle.std.specs.Str.{is_utf8, chars}
 use lib.Utf8.{encode}
 use Rattle.qtt_term.specs.Contraction.{contract}
 use Rattle.qtt_term.specs.Question.{same_form}
-use Rattle.qtt_term.specs.Rows.{RunRows, QuestionRows}
+use Rattle.qtt_term.specs.Ask.{◌>>=◌, on_head, on_answer, within}
+use Rattle.qtt_term.specs.Infer.{need, agree, sort_of, function_of, family_of, unbound}
+use Rattle.qtt_term.specs.Rows.{RunRows, QuestionRows, JudgementRows}
 
 pub run_rows_hold : RunRows
 unfolding contract digits is_utf8 chars encode
@@ -51,4 +53,21 @@ question_rows_hold = record {
   aliases_at_ten = refl;
   circles_at_ten = refl;
   texts_are_no_numbers = refl;
+}
+
+pub judgement_rows_hold : JudgementRows
+unfolding contract same_form ◌>>=◌ on_head on_answer within need agree sort_of function_of family_of unbound
+judgement_rows_hold = record {
+  identity_typed = refl;
+  dropped = refl;
+  dropped_erased = refl;
+  erased_used = refl;
+  one_branch = refl;
+  beside_a_trap = refl;
+  dead_fields = refl;
+  plus_typed = refl;
+  not_a_function = refl;
+  wrong_argument = refl;
+  deletion_typed = refl;
+  spent_question = refl;
 }

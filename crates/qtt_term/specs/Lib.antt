@@ -15,3 +15,5 @@ pub mod View
 pub mod PrimEnvironment
 pub mod Programs
 pub mod Rows
+pub mod Ask
+pub mod Infer

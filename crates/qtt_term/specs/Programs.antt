@@ -167,14 +167,13 @@ s n = node (Form.con (item 0) 1 0) (n ▸ ε)
 abbrev pub plus : Term → Term → Term
 plus n m = App ω (App ω (Def (item 3)) n) m
 
+abbrev pub plus_body : Term
+plus_body =
+    Lam ω nat (Lam ω nat
+    (node (Form.case ω (item 0) 0 1 (0 ∷ 1 ∷ [])) (nat ▸ var 0 ▸ s (plus (var 0) (var 1)) ▸ var 1 ▸ ε)))
+
 abbrev pub naturals : Env
-naturals =
-    program ((0, nat_family) ∷ [])
-    ((
-      3,
-      many (Pi ω nat (Pi ω nat nat)) (Lam ω nat (Lam ω nat
-          (node (Form.case ω (item 0) 0 1 (0 ∷ 1 ∷ [])) (nat ▸ var 0 ▸ s (plus (var 0) (var 1)) ▸ var 1 ▸ ε)))),
-    ) ∷ [])
+naturals = program ((0, nat_family) ∷ []) ((3, many (Pi ω nat (Pi ω nat nat)) plus_body) ∷ [])
 
 -- a1 : Type; a1 = Int; a2 : Type; a2 = a1; and so on; item n is the alias with number n + 1
 abbrev pub alias : ℕ → ℕ × Definition

@@ -1,14 +1,19 @@
 -- Worked examples of runs, heads and questions.
 use Rattle.std.specs.Prelude.{◌≡◌, ℕ, pos, negsuc, List, [], ◌∷◌, codes, Bool, false, true, ◌++◌}
-use Rattle.qtt_usage.specs.Mult.{𝟙, ω}
-use Rattle.qtt_term.specs.Term.{Form, Term, var, node, ε, ◌▸◌, Lam, App, Delete, Def, IntLit}
+use Rattle.qtt_usage.specs.Mult.{𝟘, 𝟙, ω}
+use Rattle.qtt_term.specs.Term.{Form, Term, var, node, ε, ◌▸◌, Pi, Lam, App, Delete, Def, IntLit, Trap}
 use Rattle.qtt_term.specs.Signature.{bool_id, BoolTy, truth, IntTy, StringTy, Refl}
 use Rattle.qtt_term.specs.FullStep.{Cause}
 use Rattle.qtt_term.specs.FullRun.{Event, Verdict, Run, full}
 use Rattle.qtt_prims.specs.Tapes.{Taped}
 use Rattle.qtt_term.specs.Question.{Head, head, Answer, compare}
+use Rattle.qtt_term.specs.Judgement.{Part}
+use Rattle.qtt_term.specs.Ask.{Question, Ending, within}
+use Rattle.qtt_term.specs.Infer.{Premise, at, Inferred, inferred, infer}
+use Rattle.qtt_term.specs.declared.rule.Rule.{Rule}
+use Rattle.qtt_term.specs.declared.rule.Rule.TheVariants as rule
 use Rattle.qtt_term.specs.PrimEnvironment.{prim_env}
-use Rattle.qtt_term.specs.Programs.{item, hello, identity, loops, forever, partial_no, one_by_zero, no_of_false, handles, trapping, echo, shows, boxed, deletes, divided, added, s, plus, naturals, aliases, circles}
+use Rattle.qtt_term.specs.Programs.{item, hello, identity, loops, forever, partial_no, one_by_zero, no_of_false, handles, trapping, echo, shows, box, boxed, deletes, divided, added, nat, s, plus, plus_body, naturals, aliases, circles}
 
 -- what a run shows
 pub record Shown : Type 0 where
@@ -91,3 +96,36 @@ pub record QuestionRows : Type 0 where
   pub aliases_at_ten : compare (aliases 11) 10 IntTy (Def (item 10)) ≡ Answer.spent
   pub circles_at_ten : compare circles 10 (Def (item 1)) (Def (item 0)) ≡ Answer.spent
   pub texts_are_no_numbers : compare prim_env 0 StringTy IntTy ≡ Answer.different []
+
+-- ---- the core judgement
+-- pick : Bool -> (1 h : Int) -> Int; pick True h = h; pick False h = 0
+abbrev pub pick : Term → Term
+pick b = Lam ω BoolTy (Lam 𝟙 IntTy (node (Form.case ω bool_id 0 1 (0 ∷ 0 ∷ [])) (IntTy ▸ b ▸ var 0 ▸ var 1 ▸ ε)))
+
+-- one : Box -> Int, over a field that is linear; its only branch is missing
+abbrev pub missing_field : Term
+missing_field = Lam 𝟙 box (node (Form.case 𝟙 (item 0) 0 1 (2 ∷ [])) (IntTy ▸ Trap IntTy ▸ var 0 ▸ ε))
+
+abbrev pub typed_so : Term → Ending Premise (Unit {0}) Inferred
+typed_so A = Ending.ok (inferred A [])
+
+abbrev pub fails_so : Rule → ℕ → Ending Premise (Unit {0}) Inferred
+fails_so r k = Ending.fails (at r k)
+
+pub record JudgementRows : Type 0 where
+  pub identity_typed : within prim_env 0 (infer prim_env Part.run [] (Lam 𝟙 IntTy (var 0))) ≡ typed_so (Pi 𝟙 IntTy IntTy)
+  -- a linear variable that is not used
+  pub dropped : within prim_env 0 (infer prim_env Part.run [] (Lam 𝟙 IntTy (IntLit (pos 3)))) ≡ fails_so rule.Lam 3
+  -- in the erased part no use is tested
+  pub dropped_erased : within prim_env 0 (infer prim_env Part.erased [] (Lam 𝟙 IntTy (IntLit (pos 3)))) ≡ typed_so (Pi 𝟙 IntTy IntTy)
+  pub erased_used : within prim_env 0 (infer prim_env Part.run [] (Lam 𝟘 IntTy (var 0))) ≡ fails_so rule.Var 1
+  -- linear in one branch alone: the join is many. A Trap leaves the others as they are
+  pub one_branch : within prim_env 0 (infer prim_env Part.run [] (pick (IntLit (pos 0)))) ≡ fails_so rule.Lam 3
+  pub beside_a_trap : within prim_env 0 (infer prim_env Part.run [] (pick (Trap IntTy))) ≡ typed_so (Pi ω BoolTy (Pi 𝟙 IntTy IntTy))
+  pub dead_fields : within boxed 0 (infer boxed Part.run [] missing_field) ≡ typed_so (Pi 𝟙 box IntTy)
+  pub plus_typed : within naturals 0 (infer naturals Part.run [] (plus_body)) ≡ typed_so (Pi ω nat (Pi ω nat nat))
+  pub not_a_function : within prim_env 0 (infer prim_env Part.run [] (App ω (IntLit (pos 3)) (IntLit (pos 4)))) ≡ fails_so rule.App 1
+  pub wrong_argument : within prim_env 0 (infer prim_env Part.run [] (App 𝟙 (Lam 𝟙 StringTy (var 0)) (IntLit (pos 4)))) ≡ fails_so rule.App 2
+  pub deletion_typed : within prim_env 0 (infer prim_env Part.run [] delete_of_refl) ≡ typed_so IntTy
+  -- the first question that is spent is kept
+  pub spent_question : within circles 5 (infer circles Part.run [] (App ω (Lam ω (Def (item 0)) (var 0)) (IntLit (pos 3)))) ≡ Ending.spent tt (Question.compared 0 IntTy (Def (item 0)))

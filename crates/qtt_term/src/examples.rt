@@ -1,7 +1,7 @@
 //! What the definitions say of small programs, of the module Prim and of its families. Each function does nothing: its contract is
 //! what was computed or proved.
 
-ghost use Rattle.qtt_term.specs.Rows.{RunRows, QuestionRows};
+ghost use Rattle.qtt_term.specs.Rows.{RunRows, QuestionRows, JudgementRows};
 ghost use Rattle.qtt_term.specs.Environment.{WellFormed, Complete};
 ghost use Rattle.qtt_term.specs.PrimEnvironment.{prim_env};
 
@@ -13,6 +13,11 @@ pub fn runs_as_worked()
 /// Heads and questions at their exact counts.
 pub fn questions_as_worked()
     ensures { QuestionRows }
+{}
+
+/// Types, uses, false premises and spent questions of small terms.
+pub fn judgements_as_worked()
+    ensures { JudgementRows }
 {}
 
 /// The module Prim is well formed, and no definition of it lacks a body.

@@ -3,6 +3,7 @@
 
 pub mod examples;
 pub mod laws;
+pub mod rule;
 pub mod term;
 
 pub use term::{Branch, Case, ConId, Delete, IoKind, Term, TermError};
