@@ -12,7 +12,8 @@ use Rattle.qtt_term.specs.Signature.{Env, truth}
 use Rattle.qtt_term.specs.Contraction.{BodiesClosed, chain, as_lit, literals, answer_term, contract}
 use Rattle.qtt_term.proofs.Subst.{inst-sub, fill-sub, subs-size}
 use Rattle.qtt_term.proofs.Closed.{closed-kept}
-use Rattle.qtt_confluence.proofs.Root.{none≢some, some-injective, chain-some, ScrutineeAt, BranchAt, Picks, Root, view, contracts}
+use Rattle.qtt_term.proofs.Options.{none≢some, some-injective, chain-some}
+use Rattle.qtt_confluence.proofs.Root.{ScrutineeAt, BranchAt, Picks, Root, view, contracts}
 use Rattle.qtt_confluence.proofs.Parallel.{Rule, Par, Pars, Stable, Coherent, par-refl, par-sub}
 
 -- ---- stable
@@ -20,7 +21,8 @@ scrutinee-sub : {ns : List ℕ} {ts : Terms} {s : Term} → ScrutineeAt ns ts s 
 scrutinee-sub ScrutineeAt.end σ = ScrutineeAt.end
 scrutinee-sub (ScrutineeAt.later h) σ = ScrutineeAt.later (scrutinee-sub h σ)
 
-branch-sub : {c n : ℕ} {ns : List ℕ} {ts : Terms} {b s : Term} → BranchAt c ns ts n b s → (σ : ℕ → Term) → BranchAt c ns (subs ns σ ts) n (sub (lifts n σ) b) (sub σ s)
+branch-sub : {c n : ℕ} {ns : List ℕ} {ts : Terms} {b s : Term} → BranchAt c ns ts n b s → (σ : ℕ → Term) →
+    BranchAt c ns (subs ns σ ts) n (sub (lifts n σ) b) (sub σ s)
 branch-sub (BranchAt.here h) σ = BranchAt.here (scrutinee-sub h σ)
 branch-sub (BranchAt.later h) σ = BranchAt.later (branch-sub h σ)
 
@@ -56,14 +58,16 @@ answer-closed (answer.Truth b) t e σ = subst (λ t. sub σ t ≡ t) (some-injec
 answer-closed answer.DivisionByZero t e σ = absurd (none≢some e)
 answer-closed answer.IllTyped t e σ = absurd (none≢some e)
 
-root-sub : {E : Env} {F : Form} {ts : Terms} {t : Term} → BodiesClosed E → Root E F ts t → (σ : ℕ → Term) → Root E F (subs (binders F) σ ts) (sub σ t)
+root-sub : {E : Env} {F : Form} {ts : Terms} {t : Term} → BodiesClosed E → Root E F ts t → (σ : ℕ → Term) →
+    Root E F (subs (binders F) σ ts) (sub σ t)
 root-sub closed (Root.by_beta {b = b} {a = a}) σ = rw (inst-sub σ b a) Root.by_beta
 root-sub {E} closed (Root.by_iota {q = q} {f = f} {k = k} {l = l} {m = m} {n = n} {ns = ns} {ts = ts} {xs = xs} {b = b} h e) σ =
     rw (fill-sub σ (skip l xs) n b e)
     (subst (λ fs. Root E (Form.case q f k m ns) (subs (zeros k (m ∷ ns)) σ ts) (sub (push fs var) (sub (lifts n σ) b))) (skip-sub l xs σ)
     (Root.by_iota (picks-sub m h σ) (ap size (skip-sub l xs σ) ∙ subs-size (skip l xs) [] σ ∙ e)))
 root-sub closed Root.by_deletion σ = Root.by_deletion
-root-sub {E} closed (Root.by_delta {d = d} {b = b} e) σ = subst (Root E (Form.named (Named.def d)) ε) (sym (closed-kept b (closed d b e) σ)) (Root.by_delta e)
+root-sub {E} closed (Root.by_delta {d = d} {b = b} e) σ =
+    subst (Root E (Form.named (Named.def d)) ε) (sym (closed-kept b (closed d b e) σ)) (Root.by_delta e)
 root-sub {E} closed (Root.by_prim {p = p} {ts = ts} {ls = ls} {t = t} d e) σ =
     subst (Root E (Form.named (Named.prim p)) (subs [] σ ts)) (sym (answer-closed (apply p ls) t e σ)) (Root.by_prim (literals-sub σ ts ls d) e)
 
@@ -80,7 +84,8 @@ pars-skip zero h = h
 pars-skip (suc k) Pars.pnil = Pars.pnil
 pars-skip (suc k) (Pars.pcell h hs) = pars-skip k hs
 
-pars-push : {c : Rule} {ts ss : Terms} → Pars c ts ss → (σ τ : ℕ → Term) → ((i : ℕ) → Par c (σ i) (τ i)) → (i : ℕ) → Par c (push ts σ i) (push ss τ i)
+pars-push : {c : Rule} {ts ss : Terms} → Pars c ts ss → (σ τ : ℕ → Term) → ((i : ℕ) → Par c (σ i) (τ i)) → (i : ℕ) →
+    Par c (push ts σ i) (push ss τ i)
 pars-push Pars.pnil σ τ h = h
 pars-push {c} (Pars.pcell {t = t} {s = s} k ks) σ τ h = pars-push ks (cons t σ) (cons s τ) go
   where
@@ -88,7 +93,8 @@ pars-push {c} (Pars.pcell {t = t} {s = s} k ks) σ τ h = pars-push ks (cons t �
     go zero = k
     go (suc i) = h i
 
-scrutinee-par : {c : Rule} {ns : List ℕ} {ts ss : Terms} {s : Term} → ScrutineeAt ns ts s → Pars c ts ss → (r : Term) × ScrutineeAt ns ss r × Par c s r
+scrutinee-par : {c : Rule} {ns : List ℕ} {ts ss : Terms} {s : Term} → ScrutineeAt ns ts s → Pars c ts ss →
+    (r : Term) × ScrutineeAt ns ss r × Par c s r
 scrutinee-par ScrutineeAt.end (Pars.pcell {s = r} h Pars.pnil) = (r, ScrutineeAt.end, h)
 scrutinee-par (ScrutineeAt.later k) (Pars.pcell h hs) = let r = scrutinee-par k hs in (r.0, ScrutineeAt.later r.1, r.2)
 
@@ -99,17 +105,22 @@ record Kept (c : Rule) (At : Term → Term → Type 0) (b s : Term) : Type 0 whe
   par_body : Par c b body
   par_scrutinee : Par c s scrutinee
 
-branch-par : {c : Rule} {x n : ℕ} {ns : List ℕ} {ts ss : Terms} {b s : Term} → BranchAt x ns ts n b s → Pars c ts ss → Kept c (BranchAt x ns ss n) b s
+branch-par : {c : Rule} {x n : ℕ} {ns : List ℕ} {ts ss : Terms} {b s : Term} → BranchAt x ns ts n b s → Pars c ts ss →
+    Kept c (BranchAt x ns ss n) b s
 branch-par (BranchAt.here k) (Pars.pcell {s = d} h hs) =
     let r = scrutinee-par k hs in record { body = d; scrutinee = r.0; at = BranchAt.here r.1; par_body = h; par_scrutinee = r.2 }
 branch-par (BranchAt.later k) (Pars.pcell h hs) =
-    let r = branch-par k hs in record { body = r.body; scrutinee = r.scrutinee; at = BranchAt.later r.at; par_body = r.par_body; par_scrutinee = r.par_scrutinee }
+    let r = branch-par k hs in
+    record { body = r.body; scrutinee = r.scrutinee; at = BranchAt.later r.at; par_body = r.par_body; par_scrutinee = r.par_scrutinee }
 
-picks-par : {c : Rule} {x k n : ℕ} {ns : List ℕ} {ts ss : Terms} {b s : Term} → Picks x k ns ts n b s → Pars c ts ss → Kept c (Picks x k ns ss n) b s
+picks-par : {c : Rule} {x k n : ℕ} {ns : List ℕ} {ts ss : Terms} {b s : Term} → Picks x k ns ts n b s → Pars c ts ss →
+    Kept c (Picks x k ns ss n) b s
 picks-par (Picks.motive k) (Pars.pcell h hs) =
-    let r = branch-par k hs in record { body = r.body; scrutinee = r.scrutinee; at = Picks.motive r.at; par_body = r.par_body; par_scrutinee = r.par_scrutinee }
+    let r = branch-par k hs in
+    record { body = r.body; scrutinee = r.scrutinee; at = Picks.motive r.at; par_body = r.par_body; par_scrutinee = r.par_scrutinee }
 picks-par (Picks.param k) (Pars.pcell h hs) =
-    let r = picks-par k hs in record { body = r.body; scrutinee = r.scrutinee; at = Picks.param r.at; par_body = r.par_body; par_scrutinee = r.par_scrutinee }
+    let r = picks-par k hs in
+    record { body = r.body; scrutinee = r.scrutinee; at = Picks.param r.at; par_body = r.par_body; par_scrutinee = r.par_scrutinee }
 
 pub as_lit-par : (E : Env) (t s : Term) (l : Lit) → Par (contract E) t s → as_lit t ≡ Some l → as_lit s ≡ Some l
 unfolding contract
@@ -128,7 +139,8 @@ literals-par E ts ss ls (Pars.pcell {t = t} {s = s} {ts = ts'} {ss = ss'} h hs) 
 abbrev Follows : Env → Form → Terms → Term → Type 0
 Follows E F ss t = (s : Term) × (contract E F ss ≡ Some s) × Par (contract E) t s
 
-con-par : (E : Env) {f : GlobalId} {c l : ℕ} {xs : Terms} {s : Term} → Par (contract E) (node (Form.con f c l) xs) s → (ys : Terms) × (s ≡ node (Form.con f c l) ys) × Pars (contract E) xs ys
+con-par : (E : Env) {f : GlobalId} {c l : ℕ} {xs : Terms} {s : Term} → Par (contract E) (node (Form.con f c l) xs) s →
+    (ys : Terms) × (s ≡ node (Form.con f c l) ys) × Pars (contract E) xs ys
 unfolding contract
 con-par E (Par.pnode {ss = ys} h) = (ys, refl, h)
 con-par E (Par.proot h e) = absurd (none≢some e)
@@ -150,7 +162,8 @@ root-par {E} closed (Root.by_iota {f = f} {c = c} {k = k} {l = l} {n = n} {ns = 
     let s = con-par E r.par_scrutinee in (
       sub (push (skip l s.0) var) r.body,
       contracts (Root.by_iota (subst (Picks c k ns _ n r.body) s.1 r.at) (pars-size (pars-skip l s.2) ∙ e)),
-      par-sub (contract E) (stable E closed) (push (skip l xs) var) (push (skip l s.0) var) (pars-push (pars-skip l s.2) var var (λ i. Par.pvar)) r.par_body,
+      par-sub (contract E) (stable E closed) (push (skip l xs) var) (push (skip l s.0) var)
+          (pars-push (pars-skip l s.2) var var (λ i. Par.pvar)) r.par_body,
     )
 root-par {E} closed (Root.by_deletion {q = q}) (Pars.pcell {s = A} hA (Pars.pcell {s = s} hs (Pars.pcell {s = P} hP (Pars.pcell {s = b} hb (Pars.pcell {s = e} he Pars.pnil))))) =
     let r = con-par E he in

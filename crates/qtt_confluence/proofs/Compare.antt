@@ -6,12 +6,12 @@ use Rattle.qtt_term.specs.Term.{Named, Form, Term, Terms, var, node, ε, ◌▸�
 use Rattle.qtt_term.specs.Signature.{Env}
 use Rattle.qtt_term.specs.Contraction.{BodiesClosed, as_lit, contract, Step, Steps, Conv}
 use Rattle.qtt_term.specs.Question.{either, wrap, argument_step, scrutinee_place, asked, head_step, step_at, arguments_step, same_form, same, same_outline, Item, beside, components, Move, of_heads, move, Answer, follow, answer, weight_of, within_count, compare}
-use Rattle.qtt_confluence.specs.Heads.{IsHead, Outline, outline, parts}
 use Rattle.qtt_term.proofs.Same.{form-is, form-same, same-is}
-use Rattle.qtt_confluence.proofs.Root.{none≢some, some-injective}
+use Rattle.qtt_term.proofs.Options.{none≢some, some-injective}
+use Rattle.qtt_confluence.specs.Heads.{IsHead, Outline, outline, parts}
+use Rattle.qtt_confluence.specs.Injective.{Convs}
 use Rattle.qtt_confluence.proofs.Parallel.{Par, ParMany}
 use Rattle.qtt_confluence.proofs.Confluence.{conv-inside, convs-same, convs-back, convs-thence, pars-convs, conv-meet}
-use Rattle.qtt_confluence.specs.Injective.{Convs}
 use Rattle.qtt_confluence.proofs.Heads.{stays, no-root}
 
 -- ---- a step toward the head is a contraction
@@ -23,7 +23,8 @@ wrap-some : {A B : Type 0} (g : A → B) (o : Option A) (b : B) → wrap g o ≡
 wrap-some g None b e = absurd (none≢some e)
 wrap-some g (Some a) b e = (a, refl, some-injective e)
 
-asked-steps : (E : Env) (F : Form) (ts ss : Terms) → ((n : ℕ) → step_at E ts n ≡ Some ss → Steps E ts ss) → (arguments_step E ts ≡ Some ss → Steps E ts ss) →
+asked-steps : (E : Env) (F : Form) (ts ss : Terms) → ((n : ℕ) → step_at E ts n ≡ Some ss → Steps E ts ss) →
+    (arguments_step E ts ≡ Some ss → Steps E ts ss) →
     asked F (step_at E ts) (arguments_step E ts) ≡ Some ss → Steps E ts ss
 asked-steps E (Form.app q) ts ss one more h = one 0 h
 asked-steps E (Form.case q f k m ns) ts ss one more h = one (scrutinee_place k ns) h
@@ -35,7 +36,8 @@ asked-steps E (Form.named (Named.prim_ty t)) ts ss one more h = absurd (none≢s
 asked-steps E (Form.named (Named.act a)) ts ss one more h = absurd (none≢some h)
 asked-steps E _ ts ss one more h = absurd (none≢some h)
 
-node-step : (E : Env) (F : Form) (ts : Terms) (s : Term) (o : Option Terms) → (contract E F ts ≡ Some s) ⊎ (wrap (node F) o ≡ Some s) → ((ss : Terms) → o ≡ Some ss → Steps E ts ss) → Step E (node F ts) s
+node-step : (E : Env) (F : Form) (ts : Terms) (s : Term) (o : Option Terms) → (contract E F ts ≡ Some s) ⊎ (wrap (node F) o ≡ Some s) →
+    ((ss : Terms) → o ≡ Some ss → Steps E ts ss) → Step E (node F ts) s
 node-step E F ts s o (inl r) k = Step.here r
 node-step E F ts s o (inr r) k = let w = wrap-some (node F) o s r in subst (Step E (node F ts)) w.2 (Step.inside (k w.0 w.1))
 
@@ -50,13 +52,16 @@ mutual
   pub head-steps : (E : Env) (t s : Term) → head_step E t ≡ Some s → Step E t s
   head-steps E (var i) s h = absurd (none≢some h)
   head-steps E (node F ts) s h =
-      node-step E F ts s (asked F (step_at E ts) (arguments_step E ts)) (either-some (contract E F ts) (wrap (node F) (asked F (step_at E ts) (arguments_step E ts))) s h)
+      node-step E F ts s (asked F (step_at E ts) (arguments_step E ts))
+      (either-some (contract E F ts) (wrap (node F) (asked F (step_at E ts) (arguments_step E ts))) s h)
       (λ ss k. asked-steps E F ts ss (λ n k. at-steps E ts ss n k) (λ k. args-steps E ts ss k) k)
 
   at-steps : (E : Env) (ts ss : Terms) (n : ℕ) → step_at E ts n ≡ Some ss → Steps E ts ss
   at-steps E ε ss n h = absurd (none≢some h)
-  at-steps E (t ▸ ts) ss zero h = let w = wrap-some (λ s. s ▸ ts) (head_step E t) ss h in subst (Steps E (t ▸ ts)) w.2 (Steps.at (head-steps E t w.0 w.1))
-  at-steps E (t ▸ ts) ss (suc n) h = let w = wrap-some (λ ss. t ▸ ss) (step_at E ts n) ss h in subst (Steps E (t ▸ ts)) w.2 (Steps.after (at-steps E ts w.0 n w.1))
+  at-steps E (t ▸ ts) ss zero h =
+      let w = wrap-some (λ s. s ▸ ts) (head_step E t) ss h in subst (Steps E (t ▸ ts)) w.2 (Steps.at (head-steps E t w.0 w.1))
+  at-steps E (t ▸ ts) ss (suc n) h =
+      let w = wrap-some (λ ss. t ▸ ss) (step_at E ts n) ss h in subst (Steps E (t ▸ ts)) w.2 (Steps.after (at-steps E ts w.0 n w.1))
 
   args-steps : (E : Env) (ts ss : Terms) → arguments_step E ts ≡ Some ss → Steps E ts ss
   args-steps E ε ss h = absurd (none≢some h)
@@ -107,7 +112,8 @@ within-agree : {E : Env} {t s : Term} → Within E t s → (outline t ≡ outlin
 within-agree Within.in_var = (refl, Convs.none)
 within-agree (Within.in_node {F} h) = (ap (Outline.form F) (convs-size h), h)
 
-pub agree : (E : Env) → BodiesClosed E → (t s : Term) → IsHead E t → IsHead E s → Conv E t s → (outline t ≡ outline s) × Convs E (parts t) (parts s)
+pub agree : (E : Env) → BodiesClosed E → (t s : Term) → IsHead E t → IsHead E s → Conv E t s →
+    (outline t ≡ outline s) × Convs E (parts t) (parts s)
 agree E bodies t s h k c = within-agree (heads-within E bodies t s h k c)
 
 -- ---- items
@@ -136,12 +142,14 @@ cond-holds : (E : Env) (b : Bool) (x y : Move) → Holds E x → Holds E y → H
 cond-holds E true x y h k = h
 cond-holds E false x y h k = k
 
-of_heads-holds : (E : Env) → BodiesClosed E → (a b : Option Term) (i : Item) → head_step E i.left ≡ a → head_step E i.right ≡ b → Conv E i.left i.right → Holds E (of_heads a b i)
+of_heads-holds : (E : Env) → BodiesClosed E → (a b : Option Term) (i : Item) → head_step E i.left ≡ a → head_step E i.right ≡ b →
+    Conv E i.left i.right → Holds E (of_heads a b i)
 of_heads-holds E bodies (Some t) b i h k c = Conv.thence (Conv.back (Conv.by_step (head-steps E i.left t h))) c
 of_heads-holds E bodies None (Some s) i h k c = Conv.thence c (Conv.by_step (head-steps E i.right s k))
 of_heads-holds E bodies None None i h k c =
     let w = heads-within E bodies i.left i.right h k c in
-    subst (λ b. Holds E (cond b (Move.splits (components i.path i.left i.right)) Move.differs)) (sym (within-outline w)) (components-conv E i.path i.left i.right w)
+    subst (λ b. Holds E (cond b (Move.splits (components i.path i.left i.right)) Move.differs)) (sym (within-outline w))
+    (components-conv E i.path i.left i.right w)
 
 move-holds : (E : Env) → BodiesClosed E → (i : Item) → Conv E i.left i.right → Holds E (move E i)
 move-holds E bodies i c =
@@ -151,7 +159,8 @@ move-holds E bodies i c =
 abbrev NeverDiffers : Env → (List Item → Answer) → Type 0
 NeverDiffers E g = (is : List Item) → AllConv E is → (p : List ℕ) → g is ≡ Answer.different p → ⊥
 
-follow-holds : (E : Env) (x : Move) (i : Item) (is : List Item) (again next : List Item → Answer) → Holds E x → AllConv E is → NeverDiffers E again → NeverDiffers E next →
+follow-holds : (E : Env) (x : Move) (i : Item) (is : List Item) (again next : List Item → Answer) → Holds E x → AllConv E is →
+    NeverDiffers E again → NeverDiffers E next →
     (p : List ℕ) → follow x i is again next ≡ Answer.different p → ⊥
 follow-holds E (Move.splits js) i is again next h hs r n p d = r (js ++ is) (all-append E js is h hs) p d
 follow-holds E (Move.contracts j) i is again next h hs r n p d = n (j ∷ is) (h, hs) p d
@@ -191,7 +200,8 @@ Leaves E i (Move.splits js) = AllConv E js → Conv E i.left i.right
 Leaves E i (Move.contracts j) = Conv E j.left j.right → Conv E i.left i.right
 Leaves E i Move.differs = Unit {0}
 
-outline-leaves : (E : Env) (i : Item) (b : Bool) → same_outline i.left i.right ≡ b → Leaves E i (cond b (Move.splits (components i.path i.left i.right)) Move.differs)
+outline-leaves : (E : Env) (i : Item) (b : Bool) → same_outline i.left i.right ≡ b →
+    Leaves E i (cond b (Move.splits (components i.path i.left i.right)) Move.differs)
 outline-leaves E i true e = λ h. components-conv-back E i.path i.left i.right e h
 outline-leaves E i false e = tt
 
@@ -200,7 +210,8 @@ of_heads-leaves E (Some t) b i h k = λ c. Conv.thence (Conv.by_step (head-steps
 of_heads-leaves E None (Some s) i h k = λ c. Conv.thence c (Conv.back (Conv.by_step (head-steps E i.right s k)))
 of_heads-leaves E None None i h k = outline-leaves E i (same_outline i.left i.right) refl
 
-same-leaves : (E : Env) (i : Item) (a b : Bool) (x : Move) → same i.left i.right ≡ b → Leaves E i x → Leaves E i (cond (a && b) (Move.splits []) x)
+same-leaves : (E : Env) (i : Item) (a b : Bool) (x : Move) → same i.left i.right ≡ b → Leaves E i x →
+    Leaves E i (cond (a && b) (Move.splits []) x)
 same-leaves E i false b x e h = h
 same-leaves E i true false x e h = h
 same-leaves E i true true x e h = λ u. subst (λ s. Conv E i.left s) (same-is i.left i.right e) Conv.same
@@ -217,7 +228,8 @@ all-front E (i ∷ is) js h = let r = all-front E is js h.1 in ((h.0, r.0), r.1)
 abbrev Proves : Env → (List Item → Answer) → Type 0
 Proves E g = (is : List Item) → g is ≡ Answer.equal → AllConv E is
 
-follow-proves : (E : Env) (x : Move) (i : Item) (is : List Item) (again next : List Item → Answer) → Leaves E i x → Proves E again → Proves E next →
+follow-proves : (E : Env) (x : Move) (i : Item) (is : List Item) (again next : List Item → Answer) → Leaves E i x → Proves E again →
+    Proves E next →
     follow x i is again next ≡ Answer.equal → AllConv E (i ∷ is)
 follow-proves E (Move.splits js) i is again next h r n d = let a = all-front E js is (r (js ++ is) d) in (h a.0, a.1)
 follow-proves E (Move.contracts j) i is again next h r n d = let a = n (j ∷ is) d in (h a.0, a.1)
@@ -226,7 +238,8 @@ follow-proves E Move.differs i is again next h r n d = absurd (cc d)
 answer-proves : (E : Env) (next : List Item → Answer) → Proves E next → (s : ℕ) → Proves E (answer E next s)
 answer-proves E next n s [] d = tt
 answer-proves E next n zero (i ∷ is) d = absurd (cc d)
-answer-proves E next n (suc s) (i ∷ is) d = follow-proves E (move E i) i is (λ js. answer E next s js) next (move-leaves E i) (answer-proves E next n s) n d
+answer-proves E next n (suc s) (i ∷ is) d =
+    follow-proves E (move E i) i is (λ js. answer E next s js) next (move-leaves E i) (answer-proves E next n s) n d
 
 within-proves : (E : Env) (n : ℕ) → Proves E (within_count E n)
 within-proves E zero is d = answer-proves E (λ js. Answer.spent) (λ js e. absurd (cc e)) (weight_of is) is d

@@ -5,8 +5,8 @@ use Rattle.qtt_term.specs.Substitution.{sub, subs, lift, lifts, cons, push, inst
 use Rattle.qtt_term.specs.Signature.{Env}
 use Rattle.qtt_term.specs.Contraction.{BodiesClosed, contract, Step, Steps, Reduces, Conv}
 use Rattle.qtt_term.proofs.Subst.{ren-is-sub}
+use Rattle.qtt_term.proofs.Options.{none≢some}
 use Rattle.qtt_confluence.specs.Injective.{Convs}
-use Rattle.qtt_confluence.proofs.Root.{none≢some}
 use Rattle.qtt_confluence.proofs.Parallel.{Par, Pars, ParMany, par_many-join, par-refl, pars-refl, confluent}
 use Rattle.qtt_confluence.proofs.Coherent.{stable, coherent}
 
@@ -139,11 +139,13 @@ module _ {E : Env} where
     pars-convs Pars.pnil = Convs.none
     pars-convs (Pars.pcell h hs) = Convs.more (par-conv h) (pars-convs hs)
 
-stiff-par : {E : Env} {F : Form} {ts : Terms} {s : Term} → Stiff E F → Par (contract E) (node F ts) s → (ss : Terms) × (s ≡ node F ss) × Convs E ts ss
+stiff-par : {E : Env} {F : Form} {ts : Terms} {s : Term} → Stiff E F → Par (contract E) (node F ts) s →
+    (ss : Terms) × (s ≡ node F ss) × Convs E ts ss
 stiff-par stiff (Par.pnode {ss = ss} h) = (ss, refl, pars-convs h)
 stiff-par stiff (Par.proot {ss = ss} h e) = absurd (none≢some (sym (stiff ss) ∙ e))
 
-stiff-many : {E : Env} {F : Form} {s t : Term} → Stiff E F → ParMany (contract E) t s → (ts : Terms) → t ≡ node F ts → (ss : Terms) × (s ≡ node F ss) × Convs E ts ss
+stiff-many : {E : Env} {F : Form} {s t : Term} → Stiff E F → ParMany (contract E) t s → (ts : Terms) → t ≡ node F ts →
+    (ss : Terms) × (s ≡ node F ss) × Convs E ts ss
 stiff-many stiff ParMany.pdone ts e = (ts, e, convs-same ts)
 stiff-many {E} stiff (ParMany.pthen {s = r} h hs) ts e =
     let a = stiff-par stiff (subst (λ t. Par (contract E) t r) e h) in
@@ -159,7 +161,8 @@ terms_of (var i) = ε
 terms_of (node F ts) = ts
 
 -- convertible terms whose forms never contract have one form, and convertible components
-pub stiff-nodes : {E : Env} {F G : Form} {ts ss : Terms} → BodiesClosed E → Stiff E F → Stiff E G → Conv E (node F ts) (node G ss) → (F ≡ G) × Convs E ts ss
+pub stiff-nodes : {E : Env} {F G : Form} {ts ss : Terms} → BodiesClosed E → Stiff E F → Stiff E G → Conv E (node F ts) (node G ss) →
+    (F ≡ G) × Convs E ts ss
 unfolding form_of terms_of
 stiff-nodes {E} {F} {G} {ts} {ss} closed f g h =
     let m = conv-meet closed h in
@@ -172,7 +175,8 @@ conv-lift : {E : Env} → BodiesClosed E → (σ τ : ℕ → Term) → ((i : �
 conv-lift closed σ τ h zero = Conv.same
 conv-lift closed σ τ h (suc i) = rw (ren-is-sub suc (σ i), ren-is-sub suc (τ i)) (conv-sub closed (h i) (λ j. var (suc j)))
 
-conv-lifts : {E : Env} → BodiesClosed E → (n : ℕ) (σ τ : ℕ → Term) → ((i : ℕ) → Conv E (σ i) (τ i)) → (i : ℕ) → Conv E (lifts n σ i) (lifts n τ i)
+conv-lifts : {E : Env} → BodiesClosed E → (n : ℕ) (σ τ : ℕ → Term) → ((i : ℕ) → Conv E (σ i) (τ i)) → (i : ℕ) →
+    Conv E (lifts n σ i) (lifts n τ i)
 conv-lifts closed zero σ τ h = h
 conv-lifts closed (suc n) σ τ h = conv-lifts closed n (lift σ) (lift τ) (conv-lift closed σ τ h)
 
@@ -181,10 +185,12 @@ mutual
   conv-fill closed (var i) σ τ h = h i
   conv-fill closed (node F ts) σ τ h = conv-inside (convs-fill closed ts (binders F) σ τ h)
 
-  pub convs-fill : {E : Env} → BodiesClosed E → (ts : Terms) (ns : List ℕ) (σ τ : ℕ → Term) → ((i : ℕ) → Conv E (σ i) (τ i)) → Convs E (subs ns σ ts) (subs ns τ ts)
+  pub convs-fill : {E : Env} → BodiesClosed E → (ts : Terms) (ns : List ℕ) (σ τ : ℕ → Term) → ((i : ℕ) → Conv E (σ i) (τ i)) →
+      Convs E (subs ns σ ts) (subs ns τ ts)
   convs-fill closed ε ns σ τ h = Convs.none
   convs-fill closed (t ▸ ts) ns σ τ h =
-      Convs.more (conv-fill closed t (lifts (first ns) σ) (lifts (first ns) τ) (conv-lifts closed (first ns) σ τ h)) (convs-fill closed ts (rest ns) σ τ h)
+      Convs.more (conv-fill closed t (lifts (first ns) σ) (lifts (first ns) τ) (conv-lifts closed (first ns) σ τ h))
+      (convs-fill closed ts (rest ns) σ τ h)
 
 pub conv-inst : {E : Env} → BodiesClosed E → {a b : Term} (B : Term) → Conv E a b → Conv E (inst B a) (inst B b)
 conv-inst {E} closed {a} {b} B h = conv-fill closed B (cons a var) (cons b var) go
@@ -194,7 +200,8 @@ conv-inst {E} closed {a} {b} B h = conv-fill closed B (cons a var) (cons b var) 
     go (suc i) = Conv.same
 
 -- convertible terms, pushed
-pub push-conv : {E : Env} {ts ss : Terms} → Convs E ts ss → (σ τ : ℕ → Term) → ((i : ℕ) → Conv E (σ i) (τ i)) → (i : ℕ) → Conv E (push ts σ i) (push ss τ i)
+pub push-conv : {E : Env} {ts ss : Terms} → Convs E ts ss → (σ τ : ℕ → Term) → ((i : ℕ) → Conv E (σ i) (τ i)) → (i : ℕ) →
+    Conv E (push ts σ i) (push ss τ i)
 push-conv Convs.none σ τ h = h
 push-conv {E} (Convs.more {t = t} {s = s} c k) σ τ h = push-conv k (cons t σ) (cons s τ) go
   where

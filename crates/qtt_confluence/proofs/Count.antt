@@ -18,7 +18,8 @@ weight-append (i ∷ is) js = let e : weight_of (is ++ js) ≡ weight_of is + we
 beside-light : (path : List ℕ) (k : ℕ) (ts ss : Terms) → weight_of (beside path k ts ss) ≤ weights ts
 beside-light path k ε ss = omega arith
 beside-light path k (t ▸ ts) ε = omega arith
-beside-light path k (t ▸ ts) (s ▸ ss) = let h : weight_of (beside path (suc k) ts ss) ≤ weights ts = beside-light path (suc k) ts ss in omega arith
+beside-light path k (t ▸ ts) (s ▸ ss) =
+    let h : weight_of (beside path (suc k) ts ss) ≤ weights ts = beside-light path (suc k) ts ss in omega arith
 
 components-light : (path : List ℕ) (t s : Term) → weight_of (components path t s) < weight t
 components-light path (var i) s = omega arith
@@ -38,7 +39,8 @@ of_heads-lighter : (a b : Option Term) (i : Item) → Lighter i (of_heads a b i)
 of_heads-lighter (Some t) b i = tt
 of_heads-lighter None (Some s) i = tt
 of_heads-lighter None None i =
-    cond-lighter i (same_outline i.left i.right) (Move.splits (components i.path i.left i.right)) Move.differs (components-light i.path i.left i.right) tt
+    cond-lighter i (same_outline i.left i.right) (Move.splits (components i.path i.left i.right)) Move.differs
+    (components-light i.path i.left i.right) tt
 
 move-lighter : (E : Env) (i : Item) → Lighter i (move E i)
 move-lighter E i =
@@ -61,7 +63,8 @@ answer-compared E n next k s [] l = Compared.all_equal
 answer-compared E n next k zero (i ∷ is) l = let p : 0 < weight i.left = weight-positive i.left in absurd (omega arith)
 answer-compared E n next k (suc s) (i ∷ is) l =
     follow-compared E n i is (λ js. answer E next s js) next (move E i) refl (move-lighter E i)
-    (λ js h. answer-compared E n next k s (js ++ is) (let e : weight_of (js ++ is) ≡ weight_of js + weight_of is = weight-append js is in omega arith))
+    (λ js h. answer-compared E n next k s (js ++ is)
+    (let e : weight_of (js ++ is) ≡ weight_of js + weight_of is = weight-append js is in omega arith))
     (λ j e. k i j is e)
 
 pub within-compared : (E : Env) (n : ℕ) (is : List Item) → Compared E n is (within_count E n is)

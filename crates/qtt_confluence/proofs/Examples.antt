@@ -1,11 +1,13 @@
 -- The examples hold.
-use Rattle.std.proofs.Common.{◌≡◌, refl}
+use Rattle.std.proofs.Common.{◌≡◌, refl, subst}
 use Rattle.qtt_usage.specs.Mult.{ω}
 use Rattle.qtt_term.specs.Term.{PrimTy, Term, ε, Pi}
+use Rattle.qtt_term.specs.Substitution.{Closed}
 use Rattle.qtt_term.specs.Signature.{Env, IntTy}
 use Rattle.qtt_term.specs.Contraction.{BodiesClosed, Step, Steps, Reduces, Conv, contract}
 use Rattle.qtt_term.specs.Question.{same_form}
-use Rattle.qtt_confluence.specs.Examples.{identity_of, arrow_of, ConversionTells, TwoWays, ComparisonTells}
+use Rattle.qtt_term.proofs.Options.{some-injective}
+use Rattle.qtt_confluence.specs.Examples.{identity_of, arrow_of, ConversionTells, OtherContractions, TwoWays, ComparisonTells}
 use Rattle.qtt_confluence.specs.Laws.{DefinitionsTell}
 use Rattle.qtt_confluence.proofs.Injective.{prim_ty_injective}
 
@@ -28,7 +30,17 @@ conversion-tells : (E : Env) → BodiesClosed E → ConversionTells E
 conversion-tells E bodies = record {
   convertible = Conv.by_step (step-identity E IntTy);
   not_the_same = λ e. absurd (cc e);
-  not_convertible = λ c. int-is-not-string (prim_ty_injective E bodies PrimTy.int PrimTy.string ε ε (Conv.thence (Conv.back (Conv.by_step (step-identity E IntTy))) c)).0;
+  not_convertible =
+      λ c. int-is-not-string (prim_ty_injective E bodies PrimTy.int PrimTy.string ε ε
+      (Conv.thence (Conv.back (Conv.by_step (step-identity E IntTy))) c)).0;
+}
+
+other-contractions : (E : Env) → OtherContractions E
+unfolding contract
+other-contractions E = record {
+  deletion = λ A s P b. Step.here refl;
+  bodies_closed = λ d b e. subst Closed (some-injective e) tt;
+  delta = λ d. Step.here refl;
 }
 
 two-ways : (E : Env) → TwoWays E
@@ -47,4 +59,4 @@ unfolding contract same_form
 comparison-tells E = record { equal = refl; spent = refl; different = refl }
 
 pub definitions-tell : DefinitionsTell
-definitions-tell E bodies = (conversion-tells E bodies, two-ways E, comparison-tells E)
+definitions-tell E bodies = (conversion-tells E bodies, other-contractions E, two-ways E, comparison-tells E)

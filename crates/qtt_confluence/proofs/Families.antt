@@ -88,13 +88,15 @@ length-append [] Ξ = omega arith
 length-append (b ∷ Θ) Ξ = let e : length (Θ ++ Ξ) ≡ length Θ + length Ξ = length-append Θ Ξ in omega arith
 
 -- a constructor of a family has its signature
-pub is_con-sig : (f : GlobalId) (k : ℕ) (ds : List Constructor) (n c : ℕ) (s : ConSig) → IsCon (con_sigs f k n ds) c s → (d : Constructor) × (s ≡ con_sig f k (n + c) d)
+pub is_con-sig : (f : GlobalId) (k : ℕ) (ds : List Constructor) (n c : ℕ) (s : ConSig) → IsCon (con_sigs f k n ds) c s →
+    (d : Constructor) × (s ≡ con_sig f k (n + c) d)
 is_con-sig f k [] n c s h = elim h [ ]
 is_con-sig f k (d ∷ ds) n c s IsCon.here = (d, ap (λ m. con_sig f k m d) (omega arith))
 is_con-sig f k (d ∷ ds) n c s (IsCon.there {n = e} h) =
     let r = is_con-sig f k ds (suc n) e s h in (r.0, r.1 ∙ ap (λ m. con_sig f k m r.0) (omega arith))
 
-pub params-are : {Θ : Tele} {ts rs : Terms} {τ : ℕ → Term} (r : Splits Θ closed ts τ rs) (fs : Terms) (n : ℕ) → size fs ≡ n → subs [] (push fs τ) (above n (length Θ)) ≡ r.taken
+pub params-are : {Θ : Tele} {ts rs : Terms} {τ : ℕ → Term} (r : Splits Θ closed ts τ rs) (fs : Terms) (n : ℕ) → size fs ≡ n →
+    subs [] (push fs τ) (above n (length Θ)) ≡ r.taken
 params-are {Θ} {τ = τ} r fs n z =
     above-sub (push fs τ) n (length Θ) ∙ ap (λ m. listing (push fs τ) m (length Θ)) (sym z) ∙ listing-below fs τ (length Θ)
     ∙ ap (λ σ. listing σ 0 (length Θ)) r.is ∙ ap (listing (push r.taken closed) 0) (sym r.sized) ∙ listing-push r.taken closed
@@ -107,8 +109,10 @@ Same E f c k τ π xs fs is =
     ((i : ℕ) → Conv E (τ i) (π i))
     × ((i : ℕ) → Conv E (push (subs [] (push fs τ) k.targets) var i) (push (is +++ (node (Form.con f c (length (fam_at E f).params)) xs ▸ ε)) var i))
 
-families_at : (E : Env) → BodiesClosed E → (f : GlobalId) (c : ℕ) (d : Constructor) (xs fs : Terms) (τ : ℕ → Term) → Splits (family_at E f).params closed xs τ fs →
-    (ts rs : Terms) (π : ℕ → Term) → Splits (family_at E f).params closed ts π rs → size fs ≡ length d.fields → (is : Terms) → size is ≡ length (family_at E f).indices →
+families_at : (E : Env) → BodiesClosed E → (f : GlobalId) (c : ℕ) (d : Constructor) (xs fs : Terms) (τ : ℕ → Term) →
+    Splits (family_at E f).params closed xs τ fs →
+    (ts rs : Terms) (π : ℕ → Term) → Splits (family_at E f).params closed ts π rs → size fs ≡ length d.fields →
+    (is : Terms) → size is ≡ length (family_at E f).indices →
     Conv E (sub (push fs τ) (con_sig f (length (family_at E f).params) c d).result) (sub (push is π) (self_of f (family_at E f))) →
     Same E f c (con_sig f (length (family_at E f).params) c d) τ π xs fs is
 families_at E bodies f c d xs fs τ a ts rs π b z is y h = (first_part, second_part)
@@ -143,7 +147,8 @@ families_at E bodies f c d xs fs τ a ts rs π b z is y h = (first_part, second_
     targets : subs [] (push fs τ) (con_sig f k c d).targets ≡ R +++ (node (Form.con f c k) xs ▸ ε)
     targets = subs-append d.results _ (push fs τ) ∙ ap (λ ts. R +++ (node (Form.con f c k) ts ▸ ε)) made
 
-    second_part : (i : ℕ) → Conv E (push (subs [] (push fs τ) (con_sig f k c d).targets) var i) (push (is +++ (node (Form.con f c k) xs ▸ ε)) var i)
+    second_part : (i : ℕ) →
+        Conv E (push (subs [] (push fs τ) (con_sig f k c d).targets) var i) (push (is +++ (node (Form.con f c k) xs ▸ ε)) var i)
     second_part i = subst (λ ts. Conv E (push ts var i) (push (is +++ (node (Form.con f c k) xs ▸ ε)) var i)) (sym targets)
         (push-conv (convs-append parts.1 (convs-same (node (Form.con f c k) xs ▸ ε))) var var (λ i. Conv.same) i)
 
@@ -160,7 +165,9 @@ length-index_binders n (T ∷ Ts) = ap suc (length-index_binders (suc n) Ts)
 pub family_injective : (E : Env) → BodiesClosed E → FamilyInjective E
 family_injective E bodies f c k i xs fs τ a ts rs π b z is y h =
     let r = is_con-sig f (length (family_at E f).params) (family_at E f).constructors 0 c k i in
-    let e : k ≡ con_sig f (length (family_at E f).params) c r.0 = r.1 ∙ ap (λ m. con_sig f (length (family_at E f).params) m r.0) (omega arith) in
+    let e : k ≡ con_sig f (length (family_at E f).params) c r.0 =
+    r.1 ∙ ap (λ m. con_sig f (length (family_at E f).params) m r.0) (omega arith) in
     subst (λ k. Same E f c k τ π xs fs is) (sym e)
-    (families_at E bodies f c r.0 xs fs τ (split-is a) ts rs π (split-is b) (z ∙ ap (λ k. length k.fields) e) is (size-indices is _ _ _ y ∙ length-index_binders 0 (family_at E f).indices)
+    (families_at E bodies f c r.0 xs fs τ (split-is a) ts rs π (split-is b) (z ∙ ap (λ k. length k.fields) e) is
+    (size-indices is _ _ _ y ∙ length-index_binders 0 (family_at E f).indices)
     (subst (λ k. Conv E (sub (push fs τ) k.result) (sub (push is π) (self_of f (family_at E f)))) e h))

@@ -4,7 +4,7 @@ use mathlib.Core.Path.{subst₂}
 use Rattle.qtt_term.specs.Term.{Form, binders, first, rest, Term, Terms, var, node, ε, ◌▸◌}
 use Rattle.qtt_term.specs.Substitution.{ren, lift, lifts, sub, subs}
 use Rattle.qtt_term.proofs.Subst.{ren-is-sub}
-use Rattle.qtt_confluence.proofs.Root.{same_some}
+use Rattle.qtt_term.proofs.Options.{same-some}
 
 abbrev pub Rule : Type 0
 Rule = Form → Terms → Option Term
@@ -65,9 +65,11 @@ module _ (c : Rule) (stable : Stable c) where
     par-sub σ τ hs (Par.pnode {F} h) = Par.pnode (pars-sub (binders F) σ τ hs h)
     par-sub σ τ hs (Par.proot {F} {ts} {ss} {t} h e) = Par.proot (pars-sub (binders F) σ τ hs h) (stable τ F ss t e)
 
-    pars-sub : (ns : List ℕ) (σ τ : ℕ → Term) → ((i : ℕ) → Par c (σ i) (τ i)) → {ts ss : Terms} → Pars c ts ss → Pars c (subs ns σ ts) (subs ns τ ss)
+    pars-sub : (ns : List ℕ) (σ τ : ℕ → Term) → ((i : ℕ) → Par c (σ i) (τ i)) → {ts ss : Terms} → Pars c ts ss →
+        Pars c (subs ns σ ts) (subs ns τ ss)
     pars-sub ns σ τ hs Pars.pnil = Pars.pnil
-    pars-sub ns σ τ hs (Pars.pcell h ks) = Pars.pcell (par-sub (lifts (first ns) σ) (lifts (first ns) τ) (par-lifts (first ns) hs) h) (pars-sub (rest ns) σ τ hs ks)
+    pars-sub ns σ τ hs (Pars.pcell h ks) =
+        Pars.pcell (par-sub (lifts (first ns) σ) (lifts (first ns) τ) (par-lifts (first ns) hs) h) (pars-sub (rest ns) σ τ hs ks)
 
 -- many parallel contractions
 pub data ParMany (c : Rule) : Term → Term → Type 0 where
@@ -95,7 +97,7 @@ module _ (c : Rule) (coherent : Coherent c) where
   two-roots F qs rs u v d e j =
       let x = coherent F qs j.0 u d j.1 in
       let y = coherent F rs j.0 v e j.2 in
-      (x.0, x.2, subst (Par c v) (same_some y.1 x.1) y.2)
+      (x.0, x.2, subst (Par c v) (same-some y.1 x.1) y.2)
 
   mutual
     pub diamond : (t u v : Term) → Par c t u → Par c t v → Join c u v

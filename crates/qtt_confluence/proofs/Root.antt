@@ -1,7 +1,7 @@
 -- What a contraction looks like.
-use Rattle.std.proofs.Common.{◌≡◌, ℕ, zero, suc, List, [], ◌∷◌, refl, sym, ◌∙◌, subst, Option, Some, None, Bool, true, false, cond, eqb, ◌&&◌}
-use mathlib.Core.Path.{subst₂}
+use Rattle.std.proofs.Common.{◌≡◌, ℕ, zero, suc, List, [], ◌∷◌, refl, sym, subst, Some, eqb, ◌&&◌}
 use Rattle.std.proofs.lemmas.Bool.{eq-eqb, eqb-true, and_parts}
+use mathlib.Core.Path.{subst₂}
 use Rattle.qtt_base.specs.declared.place.GlobalId.{GlobalId}
 use Rattle.qtt_usage.specs.declared.mult.Mult.{Mult}
 use Rattle.qtt_usage.specs.Mult.{same_mult}
@@ -11,25 +11,8 @@ use Rattle.qtt_term.specs.Term.{Named, Form, Term, Terms, var, node, ε, ◌▸�
 use Rattle.qtt_term.specs.Substitution.{sub, push, inst}
 use Rattle.qtt_term.specs.Signature.{Env, definition_at, eq_id}
 use Rattle.qtt_term.specs.Contraction.{chain, literals, Function, as_lam, call, beta, Made, as_con, scrutinee, branch_at, select, iota, when_refl, deletion, delta, computed, contract}
+use Rattle.qtt_term.proofs.Options.{none≢some, some-injective, chain-some, cond-some}
 use Rattle.qtt_term.proofs.Same.{same_mult-is, mult-same, same_id-is, id-same}
-
--- options
-pub none≢some : {A : Type 0} {a : A} → None ≡ Some a → ⊥
-none≢some e = cc e
-
-pub some-injective : {A : Type 0} {a b : A} → Some a ≡ Some b → a ≡ b
-some-injective e = cc e
-
-pub same_some : {A : Type 0} {o : Option A} {a b : A} → o ≡ Some a → o ≡ Some b → a ≡ b
-same_some d e = some-injective (sym d ∙ e)
-
-pub chain-some : {A B : Type 0} (o : Option A) (g : A → Option B) (b : B) → chain o g ≡ Some b → (a : A) × (o ≡ Some a) × (g a ≡ Some b)
-chain-some None g b e = absurd (none≢some e)
-chain-some (Some a) g b e = (a, refl, e)
-
-pub cond-some : {A : Type 0} (t : Bool) (o : Option A) (a : A) → cond t o None ≡ Some a → (t ≡ true) × (o ≡ Some a)
-cond-some true o a e = (refl, e)
-cond-some false o a e = absurd (none≢some e)
 
 -- what follows the branches
 pub data ScrutineeAt : List ℕ → Terms → Term → Type 0 where
@@ -52,7 +35,8 @@ pub data Root (E : Env) : Form → Terms → Term → Type 0 where
       Picks c k ns ts n b (node (Form.con f c l) xs) → size (skip l xs) ≡ n → Root E (Form.case q f k m ns) ts (sub (push (skip l xs) var) b)
   by_deletion : {q : Mult} {A s P b : Term} {l : ℕ} {xs : Terms} → Root E (Form.delete q) (A ▸ s ▸ P ▸ b ▸ node (Form.con eq_id zero l) xs ▸ ε) b
   by_delta : {d : GlobalId} {b : Term} → (definition_at E d).body ≡ Some b → Root E (Form.named (Named.def d)) ε b
-  by_prim : {p : Primitive} {ts : Terms} {ls : List Lit} {t : Term} → literals ts ≡ Some ls → computed p ls ≡ Some t → Root E (Form.named (Named.prim p)) ts t
+  by_prim : {p : Primitive} {ts : Terms} {ls : List Lit} {t : Term} → literals ts ≡ Some ls → computed p ls ≡ Some t →
+      Root E (Form.named (Named.prim p)) ts t
 
 -- ---- from the function to the view
 view-scrutinee : (ns : List ℕ) (ts : Terms) (s : Term) → scrutinee ns ts ≡ Some s → ScrutineeAt ns ts s
@@ -98,7 +82,8 @@ record Picked (f : GlobalId) (k : ℕ) (ns : List ℕ) (ts : Terms) (t : Term) :
   sized : size (skip params arguments) ≡ binds
   is : t ≡ sub (push (skip params arguments) var) body
 
-selected : (f : GlobalId) (ns : List ℕ) (P : Term) (ts : Terms) (s t : Term) (m : Made) → IsMade s m → ScrutineeAt ns ts s → select f ns ts m ≡ Some t → Picked f zero ns (P ▸ ts) t
+selected : (f : GlobalId) (ns : List ℕ) (P : Term) (ts : Terms) (s t : Term) (m : Made) → IsMade s m → ScrutineeAt ns ts s →
+    select f ns ts m ≡ Some t → Picked f zero ns (P ▸ ts) t
 selected f ns P ts s t m (is_made {f = g} {c = c} {k = l} {ts = xs}) h e =
     let r = cond-some (same_id f g) (branch_at c ns ts (skip l xs)) t e in
     let b = view-branch c ns ts (skip l xs) s t h r.1 in
@@ -134,7 +119,8 @@ view-lam _ f e = absurd (none≢some e)
 called : (E : Env) (q : Mult) (g a t : Term) (f : Function) → IsLam g f → call q a f ≡ Some t → Root E (Form.app q) (g ▸ a ▸ ε) t
 called E q g a t f (is_lam {q = r} {A = A} {b = b}) e =
     let c = cond-some (same_mult q r) (Some (inst b a)) t e in
-    subst (Root E (Form.app q) (Lam r A b ▸ a ▸ ε)) (some-injective c.1) (subst (λ r. Root E (Form.app q) (Lam r A b ▸ a ▸ ε) (inst b a)) (same_mult-is q r c.0) Root.by_beta)
+    subst (Root E (Form.app q) (Lam r A b ▸ a ▸ ε)) (some-injective c.1)
+    (subst (λ r. Root E (Form.app q) (Lam r A b ▸ a ▸ ε) (inst b a)) (same_mult-is q r c.0) Root.by_beta)
 
 view-beta : (E : Env) (q : Mult) (ts : Terms) (t : Term) → beta q ts ≡ Some t → Root E (Form.app q) ts t
 view-beta E q (g ▸ a ▸ ε) t e =
@@ -146,12 +132,14 @@ view-delta : (E : Env) (d : GlobalId) (ts : Terms) (t : Term) → delta E d ts �
 view-delta E d ε t e = Root.by_delta e
 view-delta E d (a ▸ ts) t e = absurd (none≢some e)
 
-deleted : (E : Env) (q : Mult) (A s P b e t : Term) (m : Made) → IsMade e m → when_refl b m ≡ Some t → Root E (Form.delete q) (A ▸ s ▸ P ▸ b ▸ e ▸ ε) t
+deleted : (E : Env) (q : Mult) (A s P b e t : Term) (m : Made) → IsMade e m → when_refl b m ≡ Some t →
+    Root E (Form.delete q) (A ▸ s ▸ P ▸ b ▸ e ▸ ε) t
 deleted E q A s P b e t m (is_made {f = f} {c = c} {k = l} {ts = xs}) h =
     let r = cond-some (same_id f eq_id && eqb c 0) (Some b) t h in
     let p = and_parts (same_id f eq_id) (eqb c 0) r.0 in
     subst (Root E (Form.delete q) (A ▸ s ▸ P ▸ b ▸ node (Form.con f c l) xs ▸ ε)) (some-injective r.1)
-    (subst₂ (λ f c. Root E (Form.delete q) (A ▸ s ▸ P ▸ b ▸ node (Form.con f c l) xs ▸ ε) b) (sym (same_id-is f eq_id p.0)) (sym (eqb-true c 0 p.1)) Root.by_deletion)
+    (subst₂ (λ f c. Root E (Form.delete q) (A ▸ s ▸ P ▸ b ▸ node (Form.con f c l) xs ▸ ε) b) (sym (same_id-is f eq_id p.0))
+    (sym (eqb-true c 0 p.1)) Root.by_deletion)
 
 view-deletion : (E : Env) (q : Mult) (ts : Terms) (t : Term) → deletion ts ≡ Some t → Root E (Form.delete q) ts t
 view-deletion E q (A ▸ s ▸ P ▸ b ▸ e ▸ ε) t h =
@@ -180,11 +168,13 @@ branch-scrutinee : {c n : ℕ} {ns : List ℕ} {ts : Terms} {b s : Term} → Bra
 branch-scrutinee (BranchAt.here h) = scrutinee-is h
 branch-scrutinee (BranchAt.later h) = branch-scrutinee h
 
-branch-is : {c n : ℕ} {ns : List ℕ} {ts : Terms} {b s : Term} (fs : Terms) → BranchAt c ns ts n b s → size fs ≡ n → branch_at c ns ts fs ≡ Some (sub (push fs var) b)
+branch-is : {c n : ℕ} {ns : List ℕ} {ts : Terms} {b s : Term} (fs : Terms) → BranchAt c ns ts n b s → size fs ≡ n →
+    branch_at c ns ts fs ≡ Some (sub (push fs var) b)
 branch-is {b = b} fs (BranchAt.here {n = n} h) e = rw (eq-eqb (size fs) n e) refl
 branch-is fs (BranchAt.later h) e = branch-is fs h e
 
-iota-is : {c k n : ℕ} {ns : List ℕ} {ts : Terms} {b s : Term} (f : GlobalId) (fs : Terms) → Picks c k ns ts n b s → as_con s ≡ Some (Made.made f c fs) → size fs ≡ n →
+iota-is : {c k n : ℕ} {ns : List ℕ} {ts : Terms} {b s : Term} (f : GlobalId) (fs : Terms) → Picks c k ns ts n b s →
+    as_con s ≡ Some (Made.made f c fs) → size fs ≡ n →
     iota f ns (skip k ts) ≡ Some (sub (push fs var) b)
 iota-is f fs (Picks.param h) d e = iota-is f fs h d e
 iota-is f fs (Picks.motive h) d e = rw (branch-scrutinee h, d, id-same f, branch-is fs h e) refl

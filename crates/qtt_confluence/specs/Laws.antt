@@ -7,7 +7,7 @@ use Rattle.qtt_term.specs.Question.{Head, head, Item, Answer, within_count, comp
 use Rattle.qtt_confluence.specs.Injective.{Convs, Injective}
 use Rattle.qtt_confluence.specs.Heads.{IsHead, Toward, outline, parts}
 use Rattle.qtt_confluence.specs.Comparison.{Compared}
-use Rattle.qtt_confluence.specs.Examples.{ConversionTells, TwoWays, ComparisonTells}
+use Rattle.qtt_confluence.specs.Examples.{ConversionTells, OtherContractions, TwoWays, ComparisonTells}
 
 -- two convertible terms contract to a common term
 abbrev pub ContractionIsConfluent : Type 0
@@ -46,4 +46,4 @@ DifferentIsApart = (E : Env) → BodiesClosed E → (n : ℕ) (t s : Term) (path
 
 -- the laws speak of something
 abbrev pub DefinitionsTell : Type 0
-DefinitionsTell = (E : Env) → BodiesClosed E → ConversionTells E × TwoWays E × ComparisonTells E
+DefinitionsTell = (E : Env) → BodiesClosed E → ConversionTells E × OtherContractions E × TwoWays E × ComparisonTells E
