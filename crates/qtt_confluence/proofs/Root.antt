@@ -14,6 +14,7 @@ use Rattle.qtt_term.specs.Contraction.{chain, literals, Function, as_lam, call, 
 use Rattle.qtt_term.proofs.Options.{none≢some, some-injective, chain-some, cond-some}
 use Rattle.qtt_term.proofs.Same.{same_mult-is, mult-same, same_id-is, id-same}
 
+-- ---- a contraction, by the rule that makes it
 -- what follows the branches
 pub data ScrutineeAt : List ℕ → Terms → Term → Type 0 where
   end : {s : Term} → ScrutineeAt [] (s ▸ ε) s
@@ -24,11 +25,12 @@ pub data BranchAt : ℕ → List ℕ → Terms → ℕ → Term → Term → Typ
   here : {n : ℕ} {ns : List ℕ} {b s : Term} {ts : Terms} → ScrutineeAt ns ts s → BranchAt zero (n ∷ ns) (b ▸ ts) n b s
   later : {c n m : ℕ} {ns : List ℕ} {d b s : Term} {ts : Terms} → BranchAt c ns ts n b s → BranchAt (suc c) (m ∷ ns) (d ▸ ts) n b s
 
--- the same of all components
+-- the same of all components, parameters and motive among them
 pub data Picks (c : ℕ) : ℕ → List ℕ → Terms → ℕ → Term → Term → Type 0 where
   motive : {ns : List ℕ} {n : ℕ} {P b s : Term} {ts : Terms} → BranchAt c ns ts n b s → Picks c zero ns (P ▸ ts) n b s
   param : {k : ℕ} {ns : List ℕ} {n : ℕ} {a b s : Term} {ts : Terms} → Picks c k ns ts n b s → Picks c (suc k) ns (a ▸ ts) n b s
 
+-- a form with its components contracts to a term
 pub data Root (E : Env) : Form → Terms → Term → Type 0 where
   by_beta : {q : Mult} {A b a : Term} → Root E (Form.app q) (Lam q A b ▸ a ▸ ε) (inst b a)
   by_iota : {q : Mult} {f : GlobalId} {c k l m n : ℕ} {ns : List ℕ} {ts xs : Terms} {b : Term} →
