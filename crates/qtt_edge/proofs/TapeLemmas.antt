@@ -1,6 +1,5 @@
 -- A list of tapes in memory, seen as the tapes that contracts speak of, after one of them changed.
 use Rattle.std.proofs.Common.{◌≡◌, ℕ, zero, suc, ◌<◌, List, [], ◌∷◌, length, map, get_or, slice_set, ap, ◌∙◌, arith}
-use Rattle.std.proofs.Math.Seq.{map-set_same}
 use Rattle.qtt_prims.specs.Tapes.{Taped, changed}
 use Rattle.qtt_edge.specs.Tapes.{IsOpenAt}
 

@@ -1,7 +1,9 @@
 pub mod ByteSink
 pub mod ByteSource
 pub mod Counts
+pub mod LineCutter
 pub mod MapVault
+pub mod Path
 pub mod Sink
 pub mod Source
 pub mod TapeRack

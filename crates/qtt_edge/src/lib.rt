@@ -4,8 +4,10 @@
 //! of faults. The types of `memory` tell their content; the adapters of the real thing tell nothing of it.
 #![tactic(auto)]
 
+pub mod adapters;
 pub mod counts;
 pub mod gate;
+pub mod line_cutter;
 pub mod memory;
 pub mod plan;
 pub mod sink;
@@ -13,7 +15,12 @@ pub mod source;
 pub mod tapes;
 pub mod vault;
 
+pub use adapters::file_tapes::FileTapes;
+pub use adapters::folder_vault::FolderVault;
+pub use adapters::std_sink::StdSink;
+pub use adapters::std_source::StdSource;
 pub use gate::{Gate, OpenGate};
+pub use line_cutter::{LineCutter, LineError, Next};
 pub use memory::byte_sink::ByteSink;
 pub use memory::byte_source::ByteSource;
 pub use memory::map_vault::MapVault;

@@ -1,5 +1,4 @@
 use Rattle.std.proofs.Common.{◌≡◌, ◌≤◌, length, take, drop, ap, Some, refl, arith}
-use Rattle.std.proofs.lemmas.List.{length-take, length-drop}
 use Rattle.qtt_edge.proofs.SourceLemmas.{copied_front, rest_from}
 use Rattle.qtt_edge.proofs.memory.byte_source.ByteSourceSource.pull.Goals as goal
 

@@ -1,4 +1,4 @@
-use Rattle.std.proofs.Common.{◌<◌, ◌≡◌, length, vec_len, map, slice_set, refl, ap, ◌∙◌, sym, arith, Some}
+use Rattle.std.proofs.Common.{◌<◌, ◌≡◌, length, map, slice_set, refl, ap, ◌∙◌, arith, Some}
 use Rattle.std.proofs.lemmas.List.{length-map}
 use Rattle.std.proofs.Math.Seq.{map-set_same}
 use Rattle.qtt_prims.specs.Tapes.{with_line}

@@ -1,4 +1,4 @@
-use Rattle.std.proofs.Common.{◌<◌, length, vec_len, map, refl, ap, arith, Some}
+use Rattle.std.proofs.Common.{◌<◌, length, map, refl, ap, arith, Some}
 use Rattle.std.proofs.lemmas.List.{length-map}
 use Rattle.qtt_prims.specs.Tapes.{shut}
 use Rattle.qtt_edge.specs.TapeRack.{taped}
