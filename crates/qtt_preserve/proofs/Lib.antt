@@ -1,0 +1,4 @@
+pub mod Uses
+pub mod Travel
+pub mod Substitution
+pub mod Exact

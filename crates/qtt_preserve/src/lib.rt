@@ -1,0 +1,2 @@
+//! Uses are kept: substitution, preservation, progress, and tapes that are closed once.
+#![tactic(auto)]
