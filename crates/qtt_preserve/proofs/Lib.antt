@@ -5,3 +5,4 @@ pub mod Exact
 pub mod Sound
 pub mod Iota
 pub mod Preservation
+pub mod Progress
