@@ -6,3 +6,5 @@ pub mod Sound
 pub mod Iota
 pub mod Preservation
 pub mod Progress
+pub mod Run
+pub mod Discipline
