@@ -167,7 +167,7 @@ pub no_branch : {Θ : Tele} {σ : ℕ → Term} {ts : Terms} {js : List Judged} 
 no_branch Args.none x = refl
 no_branch (Args.more h) x = no_branch h x
 
-no_branches : {Ξ Θ : Tele} {σ : ℕ → Term} {ts : Terms} {js : List Judged} {S R : Term} → ParamsThenArgs Ξ Θ σ ts js S R → (x : Key) → join_of js x ≡ 𝟘
+pub no_branches : {Ξ Θ : Tele} {σ : ℕ → Term} {ts : Terms} {js : List Judged} {S R : Term} → ParamsThenArgs Ξ Θ σ ts js S R → (x : Key) → join_of js x ≡ 𝟘
 no_branches (ParamsThenArgs.param h) x = no_branches h x
 no_branches (ParamsThenArgs.done h) x = no_branch h x
 

@@ -8,3 +8,5 @@ pub mod Preservation
 pub mod Progress
 pub mod Run
 pub mod Discipline
+pub mod Inverted
+pub mod Exactly

@@ -69,7 +69,7 @@ invert : {E : Env} {a : Action} {ts : Terms} {C : Term} {u : Use} → Has E Part
 invert (Has.at_node {js = js} (Rule.named there m a) hs c f) = record { asked = js; args = a; has = hs; conv = c; counted = f }
 
 -- ---- tables
-abbrev IsFlag : Mult → Type 0
+abbrev pub IsFlag : Mult → Type 0
 IsFlag ω = ⊥
 IsFlag _ = Unit {0}
 
@@ -131,7 +131,7 @@ bool_flag : (b : Bool) → IsFlag (cond b 𝟙 𝟘)
 bool_flag true = tt
 bool_flag false = tt
 
-flags : (T : List Taped) (n : ℕ) → IsFlag (open_use T n)
+pub flags : (T : List Taped) (n : ℕ) → IsFlag (open_use T n)
 flags [] n = tt
 flags (t ∷ T) zero = bool_flag t.is_open
 flags (t ∷ T) (suc n) = flags T n

@@ -1,0 +1,57 @@
+//! Laws of typed terms and runs. Each function does nothing: its contract is the law.
+
+ghost use Rattle.std.specs.Prelude.{ℕ, List};
+ghost use Rattle.qtt_base.specs.declared.place.GlobalId.{GlobalId};
+ghost use Rattle.qtt_usage.specs.Uses.{Use};
+ghost use Rattle.qtt_term.specs.Term.{Term};
+ghost use Rattle.qtt_term.specs.Signature.{Env};
+ghost use Rattle.qtt_term.specs.Contraction.{BodiesClosed};
+ghost use Rattle.qtt_term.specs.Judgement.{Part, Ctx};
+ghost use Rattle.qtt_term.specs.Environment.{WellFormed, Complete, IsMain};
+ghost use Rattle.qtt_preserve.specs.Inversion.{Inversion};
+ghost use Rattle.qtt_preserve.specs.Laws.{UsesAreExact, SubstitutionWithUses, StepKeepsTypeAndUse, StepsAreNeverStuck, RunKeepsTapes, NeverStuck, TapesClosedOnce, DerivationsGrow};
+
+/// A term has a type with at most a use exactly where it has it with an exact use within that one.
+pub fn uses_are_exact()
+    ensures { (E : Env) (p : Part) (Γ : Ctx) (t A : Term) (u : Use) → UsesAreExact E p Γ t A u }
+{}
+
+/// A derivation ends, but for conversion, by the rule of its term's form.
+pub fn inversion()
+    ensures { (E : Env) (p : Part) (Γ : Ctx) → Inversion E p Γ }
+{}
+
+/// Substitution keeps types, and carries uses (Atkey 2018).
+pub fn substitution_with_uses()
+    ensures { (E : Env) → BodiesClosed E → SubstitutionWithUses E }
+{}
+
+/// Preservation: a full step keeps the type up to conversion, and uses no more.
+pub fn step_keeps_type_and_use()
+    ensures { (E : Env) → WellFormed E → StepKeepsTypeAndUse E }
+{}
+
+/// Progress of full steps.
+pub fn steps_are_never_stuck()
+    ensures { (E : Env) → WellFormed E → Complete E → StepsAreNeverStuck E }
+{}
+
+/// Each contraction of a run keeps the types, and each open tape used exactly once.
+pub fn run_keeps_tapes()
+    ensures { (E : Env) → WellFormed E → Complete E → RunKeepsTapes E }
+{}
+
+/// Progress of full runs.
+pub fn never_stuck()
+    ensures { (E : Env) → WellFormed E → Complete E → NeverStuck E }
+{}
+
+/// Each tape that a run opens is written and closed only while it is open, and is closed exactly once.
+pub fn tapes_closed_once()
+    ensures { (E : Env) → WellFormed E → Complete E → (main : GlobalId) → IsMain E main → (n : ℕ) (input : List ℕ) → TapesClosedOnce E main n input }
+{}
+
+/// Adding to an environment keeps the derivations.
+pub fn derivations_grow()
+    ensures { DerivationsGrow }
+{}
