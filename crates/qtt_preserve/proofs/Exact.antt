@@ -4,10 +4,10 @@ use Rattle.qtt_usage.specs.declared.mult.Mult.{Mult}
 use Rattle.qtt_usage.specs.Mult.{𝟘, 𝟙, ω, ◌⊕◌, ◌⊙◌, join, ◌≼◌}
 use Rattle.qtt_usage.specs.Uses.{Key, Use, unit, zero_use, out, outs}
 use Rattle.qtt_usage.proofs.Mults.{≼-refl, ≼-trans, ⊕-zero, ⊕-mono, ⊙-mono-right, join-mono}
-use Rattle.qtt_term.specs.Term.{Form, Term, Terms, var, node, ε, ◌▸◌, Sort, Lam}
+use Rattle.qtt_term.specs.Term.{Form, Term, Terms, node, Lam}
 use Rattle.qtt_term.specs.Signature.{Tele, ConSig, FamSig, Env}
 use Rattle.qtt_term.specs.Contraction.{Conv}
-use Rattle.qtt_term.specs.Judgement.{Ctx, ext, Part, under, InRun, AtMost, Judged, judged, BindersFit, share, sum_of, join_of, has_branch, total, Args, ParamsThenArgs, Branches, Cases, Rule, UseIs, Typed, TypedAll}
+use Rattle.qtt_term.specs.Judgement.{Ctx, ext, Part, under, InRun, AtMost, Judged, BindersFit, share, sum_of, join_of, has_branch, total, Args, ParamsThenArgs, Branches, Cases, Rule, UseIs, Typed, TypedAll}
 use Rattle.qtt_preserve.specs.Within.{Has, HasAll}
 use Rattle.qtt_preserve.proofs.Uses.{≼-of}
 use Rattle.qtt_preserve.proofs.Travel.{has_as, in_run₂, always}

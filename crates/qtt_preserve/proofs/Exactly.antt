@@ -1,9 +1,9 @@
 -- Typed configurations, with exact uses and with bounds on uses.
-use Rattle.std.proofs.Common.{◌≡◌, ℕ, List, [], ◌∷◌, refl, sym, subst, arith}
+use Rattle.std.proofs.Common.{◌≡◌, List, [], arith}
 use Rattle.qtt_usage.specs.declared.mult.Mult.{Mult}
-use Rattle.qtt_usage.specs.Mult.{𝟘, 𝟙, ω, ◌⊕◌, ◌≼◌}
+use Rattle.qtt_usage.specs.Mult.{◌⊕◌, ◌≼◌}
 use Rattle.qtt_usage.specs.Uses.{Key, Use, zero_use}
-use Rattle.qtt_usage.proofs.Mults.{≼-refl, ⊕-mono}
+use Rattle.qtt_usage.proofs.Mults.{⊕-mono}
 use Rattle.qtt_term.specs.Term.{Io, Term}
 use Rattle.qtt_term.specs.Signature.{Env}
 use Rattle.qtt_term.specs.FullRun.{Config}

@@ -1,5 +1,5 @@
 -- What a derivation of each form gives back.
-use Rattle.std.proofs.Common.{◌≡◌, ℕ, suc, List, [], ◌∷◌, max, length, refl, sym, ◌∙◌, ap}
+use Rattle.std.proofs.Common.{◌≡◌, ℕ, suc, List, [], ◌∷◌, max, length, refl, ◌∙◌, ap}
 use Rattle.qtt_base.specs.declared.place.GlobalId.{GlobalId}
 use Rattle.qtt_usage.specs.declared.mult.Mult.{Mult}
 use Rattle.qtt_usage.specs.Mult.{𝟘, ◌⊕◌, ◌⊙◌, ◌≼◌}
@@ -7,10 +7,10 @@ use Rattle.qtt_usage.specs.Uses.{Key, Use, zero_use, unit, out}
 use Rattle.qtt_usage.proofs.Mults.{⊕-zero}
 use Rattle.qtt_prims.specs.declared.lit.Lit.{Lit}
 use Rattle.qtt_prims.specs.declared.lit.Lit.TheVariants as literal
-use Rattle.qtt_term.specs.Term.{Named, Form, zeros, binders, Term, Terms, var, node, ε, ◌▸◌, Sort, Pi, Lam, App, Fam, Delete, Def, Trap, Tape}
+use Rattle.qtt_term.specs.Term.{Named, Form, zeros, binders, Term, Terms, var, node, ε, ◌▸◌, Sort, Pi}
 use Rattle.qtt_term.specs.Substitution.{sub, push, inst, closed}
 use Rattle.qtt_term.specs.Signature.{Tele, ConSig, Env, There, NamedThere, signature, definition_at, fam_at, EqTy, Refl, HandleTy}
-use Rattle.qtt_term.specs.Contraction.{Conv, literal_term}
+use Rattle.qtt_term.specs.Contraction.{Conv}
 use Rattle.qtt_term.specs.Judgement.{Ctx, InScope, mult_at, type_at, IsCon, Part, under, InRun, Usable, UseIs, Judged, sum_of, join_of, total, scale, erase_binds, Args, ParamsThenArgs, Cases, Rule, Typed, TypedAll}
 use Rattle.qtt_preserve.specs.Inversion.{Inversion}
 use Rattle.qtt_preserve.proofs.Travel.{in_run}
@@ -86,10 +86,28 @@ module _ {E : Env} {p : Part} {Γ : Ctx} where
       (l : ℕ) × (u₁ : Use) × (u₂ : Use) × (u₃ : Use) × (w : Use) × (z : Use) × Usable p q × Typed E Part.erased Γ A (Sort 0) u₁ × Typed E Part.erased Γ s A u₂
       × Typed E Part.erased ((q, EqTy A s s) ∷ Γ) P (Sort l) u₃ × Typed E p Γ b (inst P (Refl A s)) w × Typed E (under p q) Γ d (EqTy A s s) z
       × Conv E (inst P d) C × UseIs p Γ (λ x. w x ⊕ q ⊙ z x) u
-  of-delete u {q}
-      (js, R, own, Rule.delete {l = l} {u₁ = u₁} {u₂ = u₂} {u₃ = u₃} {u₄ = w} {u₅ = z} m,
-      TypedAll.more e₁ h₁ f₁ (TypedAll.more e₂ h₂ f₂ (TypedAll.more e₃ h₃ f₃ (TypedAll.more e₄ h₄ f₄ (TypedAll.more e₅ h₅ f₅ TypedAll.none)))), c, e) = (
-    l, u₁, u₂, u₃, w, z, m, h₁, h₂, h₃, h₄, h₅, c,
+  of-delete u {q} (
+    js,
+    R,
+    own,
+    Rule.delete {l = l} {u₁ = u₁} {u₂ = u₂} {u₃ = u₃} {u₄ = w} {u₅ = z} m,
+    TypedAll.more e₁ h₁ f₁ (TypedAll.more e₂ h₂ f₂ (TypedAll.more e₃ h₃ f₃ (TypedAll.more e₄ h₄ f₄ (TypedAll.more e₅ h₅ f₅ TypedAll.none)))),
+    c,
+    e,
+  ) = (
+    l,
+    u₁,
+    u₂,
+    u₃,
+    w,
+    z,
+    m,
+    h₁,
+    h₂,
+    h₃,
+    h₄,
+    h₅,
+    c,
     use_as p Γ _ (λ x. w x ⊕ q ⊙ z x) u (λ x. ⊕-zero _ ∙ ap (λ n. w x ⊕ n) (⊕-zero (q ⊙ z x))) e,
   )
 

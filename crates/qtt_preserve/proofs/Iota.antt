@@ -12,7 +12,6 @@ use Rattle.qtt_term.specs.Signature.{Tele, ConSig, FamSig, Env, fam_at}
 use Rattle.qtt_term.specs.Contraction.{BodiesClosed, Conv}
 use Rattle.qtt_term.specs.Judgement.{IsCon, Ctx, mult_at, type_at, ext, Part, under, InRun, AtMost, Usable, Judged, BindersFit, sum_of, join_of, has_branch, total, sub_binds, scale, Args, ParamsThenArgs, branch_type, Branches, Cases, Rule}
 use Rattle.qtt_term.proofs.Subst.{sub-sub, sub-id, cons-ren, push-then_sub, push-lifts, push-shift, subs-after}
-use Rattle.qtt_confluence.specs.Injective.{Convs}
 use Rattle.qtt_confluence.proofs.Families.{Split, FamilyInjective}
 use Rattle.qtt_confluence.proofs.Root.{ScrutineeAt, BranchAt, Picks}
 use Rattle.qtt_confluence.proofs.Confluence.{convs-same, conv-fill, convs-fill, push-conv}

@@ -10,3 +10,5 @@ pub mod Run
 pub mod Discipline
 pub mod Inverted
 pub mod Exactly
+pub mod Grow
+pub mod Facts

@@ -1,5 +1,5 @@
 -- A step keeps type and use.
-use Rattle.std.proofs.Common.{◌≡◌, ℕ, zero, suc, Bool, true, false, Option, cond, List, [], ◌∷◌, length, Some, refl, sym, ◌∙◌, ap, subst, arith}
+use Rattle.std.proofs.Common.{◌≡◌, ℕ, zero, suc, Bool, true, false, cond, List, [], ◌∷◌, length, Some, refl, sym, ◌∙◌, ap, subst, arith}
 use mathlib.Core.Path.{ap₂, subst₂}
 use Rattle.std.proofs.Common.{ℤ}
 use Rattle.qtt_base.specs.declared.place.GlobalId.{GlobalId}
@@ -27,7 +27,7 @@ use Rattle.qtt_term.specs.Term.{Named, Form, binders, rest, Term, Terms, var, no
 use Rattle.qtt_term.specs.Substitution.{sub, cons, push, inst, closed}
 use Rattle.qtt_term.specs.Signature.{family_at, definition_at, family_of, Tele, Family, truth, BoolTy, fam_sig, ConSig, FamSig, Env, signature, prim_signature}
 use Rattle.qtt_term.specs.Environment.{HasPrim}
-use Rattle.qtt_term.specs.Contraction.{BodiesClosed, contract, Step, Conv}
+use Rattle.qtt_term.specs.Contraction.{BodiesClosed, Step, Conv}
 use Rattle.qtt_term.specs.Value.{kept, demanded}
 use Rattle.qtt_term.specs.Judgement.{IsCon, Ctx, mult_at, type_at, Part, under, InRun, AtMost, Usable, Judged, judged, share, sum_of, join_of, has_branch, total, Args, ParamsThenArgs, Branches, Cases, Rule}
 use Rattle.qtt_term.proofs.Subst.{sub-id, cons-ren}

@@ -1,5 +1,5 @@
 -- A closed term of the run part is never stuck.
-use Rattle.std.proofs.Common.{◌≡◌, ℕ, suc, ℤ, Bool, true, false, cond, List, [], ◌∷◌, length, Option, Some, None, refl, sym, ◌∙◌, ap, subst}
+use Rattle.std.proofs.Common.{◌≡◌, ℕ, suc, ℤ, Bool, true, false, cond, List, [], ◌∷◌, length, Option, Some, refl, sym, ◌∙◌, ap, subst}
 use mathlib.Core.Path.{ap₂, subst₂}
 use Rattle.qtt_base.specs.declared.place.GlobalId.{GlobalId}
 use Rattle.qtt_prims.specs.declared.answer.PrimAnswer.TheVariants as answer
@@ -19,10 +19,9 @@ use Rattle.qtt_term.specs.Term.{Io, PrimTy, Action, Named, Form, binders, zeros,
 use Rattle.qtt_term.specs.Substitution.{sub, push, closed}
 use Rattle.qtt_term.specs.Signature.{family_at, Tele, Constructor, ConSig, con_sigs, FamSig, fam_at, Env, IntTy, StringTy, HandleTy, signature, prim_signature}
 use Rattle.qtt_term.specs.Contraction.{BodiesClosed, contract, Conv}
-use Rattle.qtt_term.specs.FullStep.{Cause, Outcome, Outcomes, behind, before, component, contracts_to, itself, finish, full_step, full_steps}
+use Rattle.qtt_term.specs.FullStep.{Outcome, Outcomes, behind, before, component, contracts_to, itself, finish, full_step, full_steps}
 use Rattle.qtt_term.specs.Value.{mults, field_mults, kept, demanded}
 use Rattle.qtt_term.specs.Judgement.{IsCon, Ctx, ext, Part, under, Usable, Judged, judged, scale, Args, ParamsThenArgs, Branches, Cases, Rule}
-use Rattle.qtt_term.specs.Environment.{Complete}
 use Rattle.qtt_confluence.proofs.Root.{ScrutineeAt, BranchAt, Picks, Root, contracts}
 use Rattle.qtt_confluence.proofs.Confluence.{Stiff, stiff-nodes}
 use Rattle.qtt_confluence.proofs.Injective.{stiff-sort, stiff-pi, stiff-fam, stiff-prim_ty}

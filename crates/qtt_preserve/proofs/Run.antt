@@ -12,7 +12,6 @@ use Rattle.qtt_usage.specs.declared.mult.Mult.{Mult}
 use Rattle.qtt_usage.specs.Mult.{𝟘, 𝟙, ω, ◌⊕◌, ◌⊙◌, ◌≼◌}
 use Rattle.qtt_usage.specs.Uses.{Key, Use, unit, nat_unit, zero_use}
 use Rattle.qtt_usage.proofs.Mults.{≼-refl, ⊕-zero}
-use Rattle.qtt_prims.specs.declared.lit.Lit.{Lit}
 use Rattle.qtt_prims.specs.Tapes.{Taped, with_line, shut}
 use Rattle.qtt_prims.specs.Lines.{is_line, line_of, after_line}
 use Rattle.qtt_prims.specs.declared.lit.Lit.TheVariants as literal
@@ -24,7 +23,6 @@ use Rattle.qtt_term.specs.FullStep.{Cause, Outcome, Outcomes, finish, full_step,
 use Rattle.qtt_term.specs.FullRun.{Event, Config, Verdict, Turn, pure_unit, pure_handle, pure_line, at_open, resume, read, use_tape, perform, take_turn, turn}
 use Rattle.qtt_term.specs.Value.{mults}
 use Rattle.qtt_term.specs.Judgement.{erase_binds, IsCon, Part, under, AtMost, Judged, total, Args, ParamsThenArgs, Rule}
-use Rattle.qtt_term.specs.Environment.{Complete}
 use Rattle.qtt_term.proofs.Options.{none≢some, some-injective, chain-some, cond-some}
 use Rattle.qtt_term.proofs.Subst.{inst-ren}
 use Rattle.qtt_term.proofs.Evaluation.{full-move, before-values}

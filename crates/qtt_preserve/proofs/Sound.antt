@@ -1,16 +1,16 @@
 -- What proofs take from a well-formed and a complete environment.
-use Rattle.std.proofs.Common.{◌≡◌, ℕ, zero, suc, ◌+◌, ◌<◌, List, [], ◌∷◌, length, Option, Some, None, refl, sym, ap, subst, arith}
+use Rattle.std.proofs.Common.{◌≡◌, ℕ, zero, suc, ◌+◌, ◌<◌, List, [], ◌∷◌, length, Option, Some, None, refl, sym, subst, arith}
 use Rattle.qtt_base.specs.declared.place.GlobalId.{GlobalId}
 use Rattle.qtt_usage.specs.declared.mult.Mult.{Mult}
 use Rattle.qtt_usage.specs.Mult.{𝟘, 𝟙, ω}
 use Rattle.qtt_usage.specs.Uses.{Use, zero_use}
-use Rattle.qtt_term.specs.Term.{binders, first, rest, Term, Terms, var, node, ε, ◌▸◌}
+use Rattle.qtt_term.specs.Term.{Term, Terms}
 use Rattle.qtt_term.specs.Substitution.{sub, closed, Below, AllBelow, Closed}
 use Rattle.qtt_term.specs.Signature.{Tele, Definition, Env, definition_of, definition_at, There}
 use Rattle.qtt_term.specs.Contraction.{BodiesClosed}
 use Rattle.qtt_term.specs.Judgement.{Ctx, InScope, ext, Part, Usable, Judged, Typed, TypedAll}
 use Rattle.qtt_term.specs.Environment.{part_of, DefinitionFormed, HasPrim, WellFormed, Complete}
-use Rattle.qtt_term.proofs.Options.{none≢some, some-injective}
+use Rattle.qtt_term.proofs.Options.{none≢some}
 use Rattle.qtt_term.proofs.Closed.{closed-kept}
 use Rattle.qtt_preserve.specs.Within.{Has}
 use Rattle.qtt_preserve.proofs.Travel.{erase}

@@ -8,7 +8,7 @@ use Rattle.qtt_term.specs.Term.{Term, var}
 use Rattle.qtt_term.specs.Substitution.{ren, sub, lift}
 use Rattle.qtt_term.specs.Signature.{Env}
 use Rattle.qtt_term.specs.Contraction.{BodiesClosed, Conv}
-use Rattle.qtt_term.specs.Judgement.{Ctx, InScope, mult_at, type_at, Part, under, InRun, Usable}
+use Rattle.qtt_term.specs.Judgement.{Ctx, InScope, mult_at, type_at, Part, under, Usable}
 use Rattle.qtt_term.proofs.Subst.{ren-is-sub, lift-ren}
 use Rattle.qtt_preserve.specs.Within.{Has}
 use Rattle.qtt_preserve.specs.Through.{through}

@@ -7,7 +7,6 @@ use Rattle.qtt_usage.specs.Uses.{Key, Use, unit, zero_use}
 use Rattle.qtt_usage.proofs.Mults.{≼-refl, ≼-trans}
 use Rattle.qtt_term.specs.Term.{Form, binders, zeros, Term, Terms, var, ε, ◌▸◌, size, ◌+++◌, Sort}
 use Rattle.qtt_term.specs.Substitution.{closed, sub, subs, lift, lifts, push, shift}
-
 use Rattle.qtt_term.specs.Signature.{Refl, Tele, ConSig, FamSig, Env, signature}
 use Rattle.qtt_term.specs.Contraction.{BodiesClosed, Conv}
 use Rattle.qtt_term.specs.Judgement.{Ctx, InScope, mult_at, type_at, ext, Part, under, InRun, AtMost, Usable, Judged, judged, branch, BindersFit, total, sub_binds, scale, Args, ParamsThenArgs, branch_type, Branches, Cases, Rule}

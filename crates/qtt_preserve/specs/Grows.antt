@@ -1,5 +1,5 @@
 -- Larger environments: what is there stays, and constructors, bodies, families and definitions may be added.
-use Rattle.std.specs.Prelude.{◌≡◌, ℕ, List, ◌++◌, Some}
+use Rattle.std.specs.Prelude.{◌≡◌, List, ◌++◌, Some}
 use Rattle.qtt_base.specs.declared.place.GlobalId.{GlobalId}
 use Rattle.qtt_term.specs.Term.{Form, Term, Terms, var, node, ε, ◌▸◌}
 use Rattle.qtt_term.specs.Signature.{Constructor, Family, Definition, Env}

@@ -5,7 +5,7 @@ use Rattle.qtt_usage.specs.declared.mult.Mult.{Mult}
 use Rattle.qtt_usage.specs.Mult.{◌⊕◌, ◌⊙◌, ◌≼◌}
 use Rattle.qtt_usage.specs.Uses.{Key, Use, zero_use, unit, out}
 use Rattle.qtt_prims.specs.declared.lit.Lit.{Lit}
-use Rattle.qtt_term.specs.Term.{Named, Form, zeros, binders, Term, Terms, var, node, ε, ◌▸◌, Sort, Pi, Lam, App, Fam, Delete, Def, Trap, Tape}
+use Rattle.qtt_term.specs.Term.{Named, Form, zeros, binders, Term, Terms, var, node, Sort, Pi, Lam, App, Fam, Delete, Def, Trap, Tape}
 use Rattle.qtt_term.specs.Substitution.{sub, push, inst, closed}
 use Rattle.qtt_term.specs.Signature.{ConSig, Env, There, NamedThere, signature, definition_at, fam_at, EqTy, Refl, HandleTy}
 use Rattle.qtt_term.specs.Contraction.{Conv, literal_term}

@@ -7,14 +7,12 @@ use Rattle.qtt_usage.specs.Uses.{Key, Use, out}
 use Rattle.qtt_term.specs.Term.{Term}
 use Rattle.qtt_term.specs.Substitution.{sub, inst}
 use Rattle.qtt_term.specs.Signature.{Env, UnitTy}
-use Rattle.qtt_term.specs.Contraction.{BodiesClosed}
 use Rattle.qtt_term.specs.FullStep.{Cause, Outcome, full_step}
 use Rattle.qtt_term.specs.FullRun.{Config, Verdict, Turn, turn, start, full}
 use Rattle.qtt_term.specs.TapeDiscipline.{Disciplined, ClosedOnce}
 use Rattle.qtt_term.specs.Judgement.{Ctx, InScope, mult_at, type_at, Part, under, InRun, AtMost, Typed}
-use Rattle.qtt_term.specs.Environment.{WellFormed, Complete, IsMain}
+use Rattle.qtt_term.specs.Environment.{IsMain}
 use Rattle.qtt_preserve.specs.Within.{Has}
-use Rattle.qtt_preserve.specs.Inversion.{Inversion}
 use Rattle.qtt_preserve.specs.Through.{through}
 use Rattle.qtt_preserve.specs.Configuration.{open_use, Configured}
 use Rattle.qtt_preserve.specs.Grows.{Grows, CasesIn}
