@@ -53,7 +53,7 @@ ends_at xs i within whole is =
     record {
       within = within;
       before = whole;
-      end = sym (take-append-drop i xs) ∙ ap (λ l. take i xs ++ l) (drop-cons xs i 0 within ∙ ap (λ b. b ∷ drop (suc i) xs) is)
+      end = sym (take-append-drop i xs) ∙ ap (λ l. take i xs ++ l) (drop-cons xs i 0 within ∙ ap (λ b. b ∷ drop (suc i) xs) is);
     }
 
 -- the line and the rest of held bytes with a byte 10, and of those behind them

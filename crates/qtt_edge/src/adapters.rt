@@ -4,3 +4,5 @@ pub mod file_tapes;
 pub mod folder_vault;
 pub mod std_sink;
 pub mod std_source;
+#[cfg(test)]
+mod tests;

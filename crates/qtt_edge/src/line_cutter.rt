@@ -120,12 +120,7 @@ fn line_end(held: &[u8], from: usize) -> Option<usize>
 }
 
 /// Takes the first `len` bytes as a line, and forgets those before `behind`.
-fn cut(
-    alloc: Global,
-    held: &mut Vec<u8>,
-    len: usize,
-    behind: usize,
-) -> Result<Next, LineError>
+fn cut(alloc: Global, held: &mut Vec<u8>, len: usize, behind: usize) -> Result<Next, LineError>
     requires line { len ≤ behind }
     requires within { behind ≤ vec_len held.old }
     ensures { CutsFront (take len held.old.items) (drop behind held.old.items) held.old.items held.new.items result }
@@ -173,3 +168,6 @@ fn fill<S: Source>(held: &mut Vec<u8>, source: &mut S) -> Result<usize, LineErro
     }
     Ok(count)
 }
+
+#[cfg(test)]
+mod tests;

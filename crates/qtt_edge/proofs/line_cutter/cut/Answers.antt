@@ -7,7 +7,8 @@ returns-in_default c =
     (short_front c.args.held.now.items c.args.len (omega arith), rw (← c.deref.ensures.value) (is_utf8-no _ c.in_default.ensures.cases.0), refl)
 
 pub returns : goal.returns
-returns c =
-    (rw (← c.deref.ensures.value) (is_line-yes _ (short_front c.deref.result.now c.args.len (omega arith)) c.in-Ok.ensures.cases.1),
-        rw (← c.deref.ensures.value) (c.in-Ok-from_str.ensures ∙ c.in-Ok.ensures.cases.0),
-        search rules)
+returns c = (
+  rw (← c.deref.ensures.value) (is_line-yes _ (short_front c.deref.result.now c.args.len (omega arith)) c.in-Ok.ensures.cases.1),
+  rw (← c.deref.ensures.value) (c.in-Ok-from_str.ensures ∙ c.in-Ok.ensures.cases.0),
+  search rules,
+)
