@@ -1,13 +1,14 @@
 -- Worked examples: where a module's file stands, and what a source, a sink and tapes do.
 use Rattle.std.specs.Prelude.{◌≡◌, false, [], ◌∷◌, Some, codes, refl}
 use Rattle.std.specs.Str.{chars}
+use Rattle.std.specs.Char.{encode_utf8}
 use Rattle.qtt_prims.specs.Tapes.{new_tape, with_line, shut, changed}
 use Rattle.qtt_edge.specs.Path.{path_of}
 use Rattle.qtt_edge.specs.Sink.{Adds}
 use Rattle.qtt_edge.specs.Source.{Gives}
 
 pub path_of_qualified : path_of (codes "lib") (codes "A.B") ≡ codes "lib/A/B.qtt"
-unfolding chars
+unfolding chars encode_utf8
 path_of_qualified = refl
 
 pub adds_behind : Adds (Some (codes "a")) (Some (codes "abc")) (codes "bc")
