@@ -1,4 +1,4 @@
-use Rattle.qtt_erase.proofs.Places.{fates-fit, erase-sub}
+use Rattle.qtt_erase.proofs.Contracting.{iota-erased}
 use Rattle.qtt_erase.proofs.laws.erased_terms_run_in_step.Goals as goal
 
 pub returns : goal.returns
