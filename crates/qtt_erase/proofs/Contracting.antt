@@ -1,5 +1,5 @@
 -- What a contraction gives, erased, is what the contraction of the erasure gives.
-use Rattle.std.proofs.Common.{◌≡◌, ℕ, zero, suc, List, [], ◌∷◌, Option, Some, None, true, eqb, cond, refl, sym, ◌∙◌, ap, subst}
+use Rattle.std.proofs.Common.{◌≡◌, ℕ, zero, suc, List, [], ◌∷◌, Some, None, eqb, cond, refl, sym, ◌∙◌, ap, subst}
 use Rattle.std.proofs.lemmas.Bool.{eq-eqb, eqb-true, and_parts}
 use Rattle.qtt_base.specs.declared.place.GlobalId.{GlobalId}
 use Rattle.qtt_usage.specs.declared.mult.Mult.{Mult}
@@ -54,6 +54,7 @@ module _ (E : Env) where
       full : (i : ℕ) → IsFilled (slot_at (Slot.gone ∷ Γ) i) → NoErasedUse E Δ (cons a σ i)
       full zero u = absurd u
       full (suc i) u = h.clean i u
+
       at : (i : ℕ) → IsFilled (slot_at (Slot.gone ∷ Γ) i) → erase E Δ (cons a σ i) ≡ τ (place_at (Slot.gone ∷ Γ) i)
       at zero u = absurd u
       at (suc i) u = h.erased i u
@@ -65,6 +66,7 @@ module _ (E : Env) where
       full : (i : ℕ) → IsFilled (slot_at (Slot.blank ∷ Γ) i) → NoErasedUse E Δ (cons a σ i)
       full zero u = absurd u
       full (suc i) u = h.clean i u
+
       at : (i : ℕ) → IsFilled (slot_at (Slot.blank ∷ Γ) i) → erase E Δ (cons a σ i) ≡ small.cons l τ (place_at (Slot.blank ∷ Γ) i)
       at zero u = absurd u
       at (suc i) u = h.erased i u
@@ -76,6 +78,7 @@ module _ (E : Env) where
       full : (i : ℕ) → IsFilled (slot_at (Slot.filled ∷ Γ) i) → NoErasedUse E Δ (cons a σ i)
       full zero u = c
       full (suc i) u = h.clean i u
+
       at : (i : ℕ) → IsFilled (slot_at (Slot.filled ∷ Γ) i) → erase E Δ (cons a σ i) ≡ small.cons (erase E Δ a) τ (place_at (Slot.filled ∷ Γ) i)
       at zero u = refl
       at (suc i) u = h.erased i u
@@ -93,7 +96,7 @@ module _ (E : Env) where
       (sym (erase-sub E b _ _ _ _ h u ∙ small_sub-var _), clean-sub E b _ _ _ _ h u)
 
   -- ---- fields in their places
-  nothing-erased : (Δ : Slots) (ts : Terms) → erases E Δ [] ts ≡ ∅
+  pub nothing-erased : (Δ : Slots) (ts : Terms) → erases E Δ [] ts ≡ ∅
   nothing-erased Δ ε = refl
   nothing-erased Δ (t ▸ ts) = refl
 
@@ -106,7 +109,7 @@ module _ (E : Env) where
   carries-push q ms ε Γ Δ σ τ h u = h
   carries-push q [] (t ▸ fs) Γ Δ σ τ h u =
       subst (λ ls. Carries E (extend (Slot.gone ∷ Γ) (field_slots q [] (size fs))) Δ (push fs (cons t σ)) (small.push ls τ)) (nothing-erased Δ fs)
-          (carries-push q [] fs (Slot.gone ∷ Γ) Δ (cons t σ) τ (carries-gone Γ Δ σ τ t h) (nothing-used Δ fs))
+      (carries-push q [] fs (Slot.gone ∷ Γ) Δ (cons t σ) τ (carries-gone Γ Δ σ τ t h) (nothing-used Δ fs))
   carries-push q (𝟘 ∷ ms) (t ▸ fs) Γ Δ σ τ h u = carries-push q ms fs _ _ _ _ (carries-gone Γ Δ σ τ t h) u
   carries-push 𝟘 (𝟙 ∷ ms) (t ▸ fs) Γ Δ σ τ h u = carries-push 𝟘 ms fs _ _ _ _ (carries-blank Γ Δ σ τ t _ h) u.1
   carries-push 𝟘 (ω ∷ ms) (t ▸ fs) Γ Δ σ τ h u = carries-push 𝟘 ms fs _ _ _ _ (carries-blank Γ Δ σ τ t _ h) u.1
@@ -132,19 +135,18 @@ module _ (E : Env) where
       cond (eqb (size fs) n) (Some (sub (push fs var) b)) None ≡ Some r →
       NoErasedUse E (extend [] (field_slots q ms n)) b → NoErasedUses E [] (arguments ms) fs →
       (cond (eqb (lean.size (erases E [] (arguments ms) fs)) (places (field_slots q ms n)))
-          (Some (small.sub (small.push (erases E [] (arguments ms) fs) Lean.var) (erase E (extend [] (field_slots q ms n)) b))) None ≡ Some (erase E [] r))
+      (Some (small.sub (small.push (erases E [] (arguments ms) fs) Lean.var) (erase E (extend [] (field_slots q ms n)) b))) None ≡ Some (erase E [] r))
       × NoErasedUse E [] r
   entered q ms n b fs r e u v =
       let p = cond-some (eqb (size fs) n) (Some (sub (push fs var) b)) r e in
       let l : size fs ≡ n = eqb-true (size fs) n p.0 in
       let g : sub (push fs var) b ≡ r = some-injective p.1 in
       let h : Carries E (extend [] (field_slots q ms n)) [] (push fs var) (small.push (erases E [] (arguments ms) fs) Lean.var) =
-          subst (λ k. Carries E (extend [] (field_slots q ms k)) [] (push fs var) (small.push (erases E [] (arguments ms) fs) Lean.var)) l
-              (carries-push q ms fs [] [] var Lean.var starts v) in
-      (
+      subst (λ k. Carries E (extend [] (field_slots q ms k)) [] (push fs var) (small.push (erases E [] (arguments ms) fs) Lean.var)) l
+      (carries-push q ms fs [] [] var Lean.var starts v) in (
         ap (λ t. cond t (Some (small.sub (small.push (erases E [] (arguments ms) fs) Lean.var) (erase E (extend [] (field_slots q ms n)) b))) None)
             (eq-eqb _ _ (fields-left q ms fs ∙ ap (λ k. places (field_slots q ms k)) l))
-        ∙ ap Some (sym (erase-sub E b _ _ _ _ h u) ∙ ap (erase E []) g),
+            ∙ ap Some (sym (erase-sub E b _ _ _ _ h u) ∙ ap (erase E []) g),
         subst (NoErasedUse E []) g (clean-sub E b _ _ _ _ h u),
       )
 
@@ -185,29 +187,27 @@ module _ (E : Env) where
   made-erased : (q : Mult) (f g : GlobalId) (ns : List ℕ) (us : Terms) (c k : ℕ) (ts : Terms) (r : Term) → f ≡ g → whole.branch_at c ns us (skip k ts) ≡ Some r →
       NoErasedUses E [] (branches q (family_at E f).constructors ns) us → NoErasedUse E [] (node (Form.con g c k) ts) →
       (chain (step.as_con (erase E [] (node (Form.con g c k) ts)))
-          (step.select (kept_binders q (family_at E f).constructors ns) (erases E [] (branches q (family_at E f).constructors ns) us)) ≡ Some (erase E [] r))
+      (step.select (kept_binders q (family_at E f).constructors ns) (erases E [] (branches q (family_at E f).constructors ns) us)) ≡ Some (erase E [] r))
       × NoErasedUse E [] r
   made-erased q f g ns us c k ts r same e u v =
       let fs : List Fate = arguments (field_mults (family_at E g).constructors c) in
       let b = branch-erased q (family_at E f).constructors ns us c (skip k ts) r e u
-          (subst (λ h. NoErasedUses E [] (arguments (field_mults (family_at E h).constructors c)) (skip k ts)) (sym same) (cleans-without k fs ts v.1)) in
-      (
+      (subst (λ h. NoErasedUses E [] (arguments (field_mults (family_at E h).constructors c)) (skip k ts)) (sym same) (cleans-without k fs ts v.1)) in (
         ap (step.branch_at c (kept_binders q (family_at E f).constructors ns) (erases E [] (branches q (family_at E f).constructors ns) us))
             (erases-without k fs ts ∙ ap (λ h. erases E [] (arguments (field_mults (family_at E h).constructors c)) (skip k ts)) (sym same))
-        ∙ b.0,
+            ∙ b.0,
         b.1,
       )
 
   selected : (q : Mult) (f : GlobalId) (ns : List ℕ) (us : Terms) (s : Term) (m : whole.Made) (r : Term) → whole.as_con s ≡ Some m →
       whole.select f ns us m ≡ Some r → NoErasedUses E [] (branches q (family_at E f).constructors ns) us → NoErasedUse E [] s →
       (chain (step.as_con (erase E [] s))
-          (step.select (kept_binders q (family_at E f).constructors ns) (erases E [] (branches q (family_at E f).constructors ns) us)) ≡ Some (erase E [] r))
+      (step.select (kept_binders q (family_at E f).constructors ns) (erases E [] (branches q (family_at E f).constructors ns) us)) ≡ Some (erase E [] r))
       × NoErasedUse E [] r
   selected q f ns us s (whole.Made.made g c fs) r ec e u v =
       let p = as_con-is s g c fs ec in
       let t = cond-some (same_id f g) (whole.branch_at c ns us fs) r e in
-      let w = made-erased q f g ns us c p.0 p.1 r (same_id-is f g t.0) (ap (whole.branch_at c ns us) (sym p.3) ∙ t.1) u (subst (NoErasedUse E []) p.2 v) in
-      (
+      let w = made-erased q f g ns us c p.0 p.1 r (same_id-is f g t.0) (ap (whole.branch_at c ns us) (sym p.3) ∙ t.1) u (subst (NoErasedUse E []) p.2 v) in (
         ap (λ x. chain (step.as_con (erase E [] x))
             (step.select (kept_binders q (family_at E f).constructors ns) (erases E [] (branches q (family_at E f).constructors ns) us))) p.2 ∙ w.0,
         w.1,
@@ -222,11 +222,10 @@ module _ (E : Env) where
       let p = chain-some (whole.scrutinee ns us) (λ s. chain (whole.as_con s) (whole.select f ns us)) r e in
       let m = chain-some (whole.as_con p.0) (whole.select f ns us) r p.2 in
       let s = scrutinee-erased q (family_at E f).constructors ns us p.0 p.1 u in
-      let w = selected q f ns us p.0 m.0 r m.1 m.2 u s.1 in
-      (
+      let w = selected q f ns us p.0 m.0 r m.1 m.2 u s.1 in (
         ap (λ o. chain o (λ x. chain (step.as_con x)
             (step.select (kept_binders q (family_at E f).constructors ns) (erases E [] (branches q (family_at E f).constructors ns) us)))) s.0
-        ∙ w.0,
+            ∙ w.0,
         w.1,
       )
 
@@ -242,11 +241,10 @@ module _ (E : Env) where
       let t = cond-some _ (Some b) r d in
       let w = and_parts (same_id f eq_id) (eqb c 0) t.0 in
       let x : e ≡ node (Form.con eq_id 0 p.0) p.1 =
-          p.2 ∙ ap (λ g. node (Form.con g c p.0) p.1) (same_id-is f eq_id w.0) ∙ ap (λ d. node (Form.con eq_id d p.0) p.1) (eqb-true c 0 w.1) in
-      (
+      p.2 ∙ ap (λ g. node (Form.con g c p.0) p.1) (same_id-is f eq_id w.0) ∙ ap (λ d. node (Form.con eq_id d p.0) p.1) (eqb-true c 0 w.1) in (
         ap (λ e. step.iota (0 ∷ []) (erase E [] b ◂ erase E [] e ◂ ∅)) x
-        ∙ ap (λ fs. step.branch_at 0 (0 ∷ []) (erase E [] b ◂ lean.Con 0 fs ◂ ∅) fs) (reflexive h p.0 p.1)
-        ∙ ap Some (small_sub-var (erase E [] b) ∙ ap (erase E []) (some-injective t.1)),
+            ∙ ap (λ fs. step.branch_at 0 (0 ∷ []) (erase E [] b ◂ lean.Con 0 fs ◂ ∅) fs) (reflexive h p.0 p.1)
+            ∙ ap Some (small_sub-var (erase E [] b) ∙ ap (erase E []) (some-injective t.1)),
         subst (NoErasedUse E []) (some-injective t.1) u,
       )
 

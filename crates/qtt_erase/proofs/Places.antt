@@ -1,17 +1,17 @@
 -- Erasure commutes with renaming and with substitution, for terms without erased uses.
-use Rattle.std.proofs.Common.{◌≡◌, ℕ, zero, suc, List, [], ◌∷◌, length, Option, Some, None, refl, sym, ◌∙◌, ap, subst}
+use Rattle.std.proofs.Common.{◌≡◌, ℕ, zero, suc, List, [], ◌∷◌, length, Some, None, refl, sym, ◌∙◌, ap, subst}
 use mathlib.Core.Path.{fun_ext, ap₂}
 use Rattle.qtt_usage.specs.declared.mult.Mult.{Mult}
 use Rattle.qtt_usage.specs.Mult.{𝟘, 𝟙, ω}
 use Rattle.qtt_term.specs.Term.{Named, Form, Term, Terms, var, node, ε, ◌▸◌, binders, first, rest, zeros}
-use Rattle.qtt_term.specs.Substitution.{ren, rens, lift_ren, lifts_ren, sub, subs, lift, lifts, cons}
+use Rattle.qtt_term.specs.Substitution.{ren, rens, lift_ren, lifts_ren, sub, subs, lift, lifts}
 use Rattle.qtt_term.specs.Signature.{Constructor, Env, family_at, signature}
 use Rattle.qtt_term.specs.Value.{mults, field_mults}
 use Rattle.qtt_erase.specs.Lean as lean
 use Rattle.qtt_erase.specs.Lean.{Shape, Lean, Leans, ∅, ◌◂◌}
 use Rattle.qtt_erase.specs.LeanSubstitution as small
-use Rattle.qtt_erase.specs.Erasure.{Slot, argument_slot, field_slot, field_slots, counted, places, Slots, extend, slot_at, place_at, variable, Fate, argument, arguments, without, branches, fates, kept_binders, lam_shape, app_shape, shape, erase, erases}
-use Rattle.qtt_erase.specs.ErasedUse.{IsFilled, NamesNoZero, NoErasedUse, NoErasedUses}
+use Rattle.qtt_erase.specs.Erasure.{Slot, field_slots, counted, places, Slots, extend, slot_at, place_at, variable, Fate, arguments, without, branches, fates, kept_binders, shape, erase, erases}
+use Rattle.qtt_erase.specs.ErasedUse.{IsFilled, NoErasedUse, NoErasedUses}
 
 -- ---- the binders of what is left are the places of the slots
 -- fates, with how many binders each component stands under before and after
@@ -83,6 +83,7 @@ renames-lift s Γ Δ ρ π h = record { filled = full; placed = at s }
     full : (i : ℕ) → IsFilled (slot_at (s ∷ Γ) i) → IsFilled (slot_at (s ∷ Δ) (lift_ren ρ i))
     full zero u = u
     full (suc i) u = h.filled i u
+
     at : (s : Slot) (i : ℕ) → IsFilled (slot_at (s ∷ Γ) i) → place_at (s ∷ Δ) (lift_ren ρ i) ≡ under s π (place_at (s ∷ Γ) i)
     at Slot.gone zero u = absurd u
     at Slot.blank zero u = absurd u
@@ -120,8 +121,8 @@ module _ (E : Env) where
     erases-rens (t ▸ ts) ns (Some ss ∷ fs) ks Γ Δ ρ π w h u =
         ap₂ ◌◂◌
         (subst (λ n. erase E (extend Δ ss) (ren (lifts_ren n ρ) t) ≡ small.ren (lifts_ren (first ks) π) (erase E (extend Γ ss) t)) w.0
-            (subst (λ k. erase E (extend Δ ss) (ren (lifts_ren (length ss) ρ) t) ≡ small.ren (lifts_ren k π) (erase E (extend Γ ss) t)) w.1
-                (erase-ren t (extend Γ ss) (extend Δ ss) _ _ (renames-extend ss Γ Δ ρ π h) u.0)))
+        (subst (λ k. erase E (extend Δ ss) (ren (lifts_ren (length ss) ρ) t) ≡ small.ren (lifts_ren k π) (erase E (extend Γ ss) t)) w.1
+        (erase-ren t (extend Γ ss) (extend Δ ss) _ _ (renames-extend ss Γ Δ ρ π h) u.0)))
         (erases-rens ts (rest ns) fs (rest ks) Γ Δ ρ π w.2 h u.1)
 
   mutual
@@ -206,8 +207,10 @@ module _ (E : Env) where
       full : (i : ℕ) → IsFilled (slot_at (s ∷ Γ) i) → NoErasedUse E (s ∷ Δ) (lift σ i)
       full zero u = u
       full (suc i) u = clean-ren E (σ i) Δ (s ∷ Δ) suc (past s) (past-renames s Δ) (h.clean i u)
+
       renamed : (s : Slot) (i : ℕ) → IsFilled (slot_at Γ i) → erase E (s ∷ Δ) (ren suc (σ i)) ≡ small.ren (past s) (erase E Δ (σ i))
       renamed s i u = erase-ren E (σ i) Δ (s ∷ Δ) suc (past s) (past-renames s Δ) (h.clean i u)
+
       at : (s : Slot) (i : ℕ) → IsFilled (slot_at (s ∷ Γ) i) → erase E (s ∷ Δ) (lift σ i) ≡ small_under s τ (place_at (s ∷ Γ) i)
       at Slot.gone zero u = absurd u
       at Slot.blank zero u = absurd u
@@ -242,8 +245,8 @@ module _ (E : Env) where
     erases-subs (t ▸ ts) ns (Some ss ∷ fs) ks Γ Δ σ τ w h u =
         ap₂ ◌◂◌
         (subst (λ n. erase E (extend Δ ss) (sub (lifts n σ) t) ≡ small.sub (small.lifts (first ks) τ) (erase E (extend Γ ss) t)) w.0
-            (subst (λ k. erase E (extend Δ ss) (sub (lifts (length ss) σ) t) ≡ small.sub (small.lifts k τ) (erase E (extend Γ ss) t)) w.1
-                (erase-sub t (extend Γ ss) (extend Δ ss) _ _ (carries-extend ss Γ Δ σ τ h) u.0)))
+        (subst (λ k. erase E (extend Δ ss) (sub (lifts (length ss) σ) t) ≡ small.sub (small.lifts k τ) (erase E (extend Γ ss) t)) w.1
+        (erase-sub t (extend Γ ss) (extend Δ ss) _ _ (carries-extend ss Γ Δ σ τ h) u.0)))
         (erases-subs ts (rest ns) fs (rest ks) Γ Δ σ τ w.2 h u.1)
 
   mutual

@@ -1,5 +1,5 @@
 -- No erased use: outside parts at 0 a term mentions no variable that is bound at 0 and no 0 definition.
-use Rattle.std.specs.Prelude.{◌≡◌, ℕ, List, [], ◌∷◌, Option, Some, None}
+use Rattle.std.specs.Prelude.{◌≡◌, List, [], ◌∷◌, Some, None}
 use Rattle.qtt_base.specs.declared.place.GlobalId.{GlobalId}
 use Rattle.qtt_term.specs.Term.{Named, Form, Term, Terms, var, node, ε, ◌▸◌}
 use Rattle.qtt_term.specs.Signature.{Env, definition_at, eq_id, eq_family}

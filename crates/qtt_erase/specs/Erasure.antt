@@ -2,11 +2,10 @@
 -- so that what stands in a body is evaluated no earlier. Each type is Ty, and so is a variable bound at 0. A Delete is a Case with
 -- one branch.
 use Rattle.std.specs.Prelude.{ℕ, zero, suc, List, [], ◌∷◌, Option, Some, None}
-use Rattle.qtt_base.specs.declared.place.GlobalId.{GlobalId}
 use Rattle.qtt_usage.specs.declared.mult.Mult.{Mult}
 use Rattle.qtt_usage.specs.Mult.{𝟘, 𝟙, ω}
 use Rattle.qtt_term.specs.Term.{Named, Form, Term, Terms, var, node, ε, ◌▸◌}
-use Rattle.qtt_term.specs.Signature.{Constructor, Definition, Env, family_at, definition_at, signature}
+use Rattle.qtt_term.specs.Signature.{Constructor, Env, family_at, definition_at, signature}
 use Rattle.qtt_term.specs.Value.{mults, field_mults}
 use Rattle.qtt_erase.specs.Lean.{Shape, Lean, Leans, ∅, ◌◂◌, Ty}
 use Rattle.qtt_erase.specs.LeanStep.{Bodies}

@@ -1,6 +1,6 @@
 -- Erased terms: a variable, or a shape with its components. What carries no content at run time is gone: multiplicities, types,
 -- parameters, and arguments and fields at 0. Variables are de Bruijn indices.
-use Rattle.std.specs.Prelude.{ℕ, zero, suc, List, [], ◌∷◌, length}
+use Rattle.std.specs.Prelude.{ℕ, suc, List, [], ◌∷◌, length}
 use Rattle.qtt_base.specs.declared.place.GlobalId.{GlobalId}
 use Rattle.qtt_prims.specs.declared.prim.Primitive.{Primitive}
 use Rattle.qtt_prims.specs.declared.lit.Lit.{Lit}

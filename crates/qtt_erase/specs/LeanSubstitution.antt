@@ -1,7 +1,7 @@
 -- Simultaneous substitution of erased terms without capture.
 use Rattle.std.specs.Prelude.{ℕ, zero, suc, List}
 use Rattle.qtt_term.specs.Term.{first, rest}
-use Rattle.qtt_term.specs.Substitution.{lift_ren, lifts_ren}
+use Rattle.qtt_term.specs.Substitution.{lifts_ren}
 use Rattle.qtt_erase.specs.Lean.{binders, Lean, Leans, ∅, ◌◂◌}
 
 -- each variable renamed

@@ -1,8 +1,8 @@
 -- Small programs whose erasure tells something, as environments. Items have the numbers that they have in the text.
-use Rattle.std.specs.Prelude.{pos, List, [], ◌∷◌}
+use Rattle.std.specs.Prelude.{pos, [], ◌∷◌}
 use Rattle.qtt_usage.specs.Mult.{𝟘, 𝟙, ω}
 use Rattle.qtt_term.specs.Term.{Form, Term, var, node, ε, ◌▸◌, Sort, Pi, Lam, App, Fam, Def, IntLit}
-use Rattle.qtt_term.specs.Signature.{Family, Env, plain_constructor, IntTy, StringTy}
+use Rattle.qtt_term.specs.Signature.{Family, Env, IntTy, StringTy}
 use Rattle.qtt_term.specs.Programs.{item, program, many, io_unit, put, shown, added, nat, nat_family, z, s, plus}
 
 -- data Vect (a : Type) : Nat -> Type where Nil : Vect a Z; Cons : (0 k : Nat) -> (1 x : a) -> (1 xs : Vect a k) -> Vect a (S k)
@@ -15,7 +15,7 @@ vect_family = record {
   indices = nat ∷ [];
   level = 0;
   constructors = record { fields = []; results = z ▸ ε }
-  ∷ record { fields = (𝟘, nat) ∷ (𝟙, var 1) ∷ (𝟙, vect (var 2) (var 1)) ∷ []; results = s (var 2) ▸ ε } ∷ [];
+      ∷ record { fields = (𝟘, nat) ∷ (𝟙, var 1) ∷ (𝟙, vect (var 2) (var 1)) ∷ []; results = s (var 2) ▸ ε } ∷ [];
 }
 
 abbrev pub nil : Term → Term
@@ -40,11 +40,11 @@ append_type =
 abbrev pub append_body : Term
 append_body =
     Lam 𝟘 (Sort 0) (Lam 𝟘 nat (Lam 𝟘 nat (Lam 𝟙 (vect (var 2) (var 1)) (Lam 𝟙 (vect (var 3) (var 1)) (App 𝟙
-        (node (Form.case 𝟙 (item 4) 1 2 (0 ∷ 3 ∷ [])) (var 4 ▸ Pi 𝟙 (vect (var 6) (var 4)) (vect (var 7) (plus (var 2) (var 5)))
-            ▸ Lam 𝟙 (vect (var 4) (var 2)) (var 0)
-            ▸ Lam 𝟙 (vect (var 7) (var 5)) (cons (var 8) (plus (var 3) (var 6)) (var 2) (append (var 8) (var 3) (var 6) (var 1) (var 0)))
-            ▸ var 1 ▸ ε))
-        (var 0))))))
+    (node (Form.case 𝟙 (item 4) 1 2 (0 ∷ 3 ∷ [])) (var 4 ▸ Pi 𝟙 (vect (var 6) (var 4)) (vect (var 7) (plus (var 2) (var 5)))
+    ▸ Lam 𝟙 (vect (var 4) (var 2)) (var 0)
+    ▸ Lam 𝟙 (vect (var 7) (var 5)) (cons (var 8) (plus (var 3) (var 6)) (var 2) (append (var 8) (var 3) (var 6) (var 1) (var 0)))
+    ▸ var 1 ▸ ε))
+    (var 0))))))
 
 abbrev pub total : Term → Term → Term
 total n xs = App ω (App 𝟘 (Def (item 8)) n) xs
@@ -53,7 +53,7 @@ total n xs = App ω (App 𝟘 (Def (item 8)) n) xs
 abbrev pub total_body : Term
 total_body =
     Lam 𝟘 nat (Lam ω (vect IntTy (var 0))
-        (node (Form.case ω (item 4) 1 2 (0 ∷ 3 ∷ [])) (IntTy ▸ IntTy ▸ IntLit (pos 0) ▸ added (var 1) (total (var 2) (var 0)) ▸ var 0 ▸ ε)))
+    (node (Form.case ω (item 4) 1 2 (0 ∷ 3 ∷ [])) (IntTy ▸ IntTy ▸ IntLit (pos 0) ▸ added (var 1) (total (var 2) (var 0)) ▸ var 0 ▸ ε)))
 
 -- main = putLine (showInt (total (plus (S (S Z)) (S Z)) (append Int (S (S Z)) (S Z) (Cons (S Z) 4 (Cons Z 5 Nil)) (Cons Z 6 Nil))))
 abbrev pub vectors : Env
@@ -62,8 +62,11 @@ vectors =
     ((3, many (Pi ω nat (Pi ω nat nat)) plus_body)
     ∷ (7, many append_type append_body)
     ∷ (8, many (Pi 𝟘 nat (Pi ω (vect IntTy (var 0)) IntTy)) total_body)
-    ∷ (9, many io_unit (put (shown (total (plus (s (s z)) (s z)) (append IntTy (s (s z)) (s z)
-        (cons IntTy (s z) (IntLit (pos 4)) (cons IntTy z (IntLit (pos 5)) (nil IntTy))) (cons IntTy z (IntLit (pos 6)) (nil IntTy))))))) ∷ [])
+    ∷ (
+      9,
+      many io_unit (put (shown (total (plus (s (s z)) (s z)) (append IntTy (s (s z)) (s z)
+          (cons IntTy (s z) (IntLit (pos 4)) (cons IntTy z (IntLit (pos 5)) (nil IntTy))) (cons IntTy z (IntLit (pos 6)) (nil IntTy)))))),
+    ) ∷ [])
 
 -- data Same (x : Type) : Type -> Type where MkSame : Same x x; bad : Same Int String; bad = bad;
 -- cast : (0 a : Type) -> (0 b : Type) -> (p : Same a b) -> a -> b; cast a _ MkSame x = x; main = putLine (cast Int String bad 3)
@@ -78,6 +81,6 @@ casts =
       3,
       many (Pi 𝟘 (Sort 0) (Pi 𝟘 (Sort 0) (Pi ω (same (var 1) (var 0)) (Pi ω (var 2) (var 2)))))
           (Lam 𝟘 (Sort 0) (Lam 𝟘 (Sort 0) (Lam ω (same (var 1) (var 0)) (Lam ω (var 2)
-              (node (Form.case ω (item 0) 1 2 (0 ∷ [])) (var 3 ▸ var 1 ▸ var 0 ▸ var 1 ▸ ε)))))),
+          (node (Form.case ω (item 0) 1 2 (0 ∷ [])) (var 3 ▸ var 1 ▸ var 0 ▸ var 1 ▸ ε)))))),
     )
     ∷ (4, many io_unit (put (App ω (App ω (App 𝟘 (App 𝟘 (Def (item 3)) IntTy) StringTy) (Def (item 2))) (IntLit (pos 3))))) ∷ [])

@@ -1,9 +1,8 @@
 -- Worked examples of erasure.
-use Rattle.std.specs.Prelude.{◌≡◌, pos, List, [], ◌∷◌, Some, None}
+use Rattle.std.specs.Prelude.{◌≡◌, pos, [], ◌∷◌, Some, None}
 use Rattle.qtt_prims.specs.declared.prim.Primitive.TheVariants as prim
 use Rattle.qtt_prims.specs.declared.lit.Lit.TheVariants as literal
 use Rattle.qtt_term.specs.Term.{Action}
-use Rattle.qtt_term.specs.Signature.{Env}
 use Rattle.qtt_term.specs.Programs.{item, identity, loops, boxed, deletes, program, zero_def}
 use Rattle.qtt_term.specs.Signature.{IntTy}
 use Rattle.qtt_erase.specs.Lean.{Shape, Lean, ∅, ◌◂◌, Fun, Thunk, App, Force, Def, Con, Literal, Call, Act}
@@ -16,18 +15,18 @@ pub record ErasureRows : Type 0 where
       Some (Act Action.put_line (Call prim.ShowInt (App (Def (item 0)) (Literal (literal.Int (pos 3))) ◂ ∅) ◂ ∅))
   pub plus_keeps : erased_bodies vectors (item 3) ≡
       Some (Fun (Fun (Lean.node (Shape.case (0 ∷ 1 ∷ [])) (
-        Lean.var 0 ◂ Con 1 (App (App (Def (item 3)) (Lean.var 0)) (Lean.var 1) ◂ ∅) ◂ Lean.var 1 ◂ ∅))))
+      Lean.var 0 ◂ Con 1 (App (App (Def (item 3)) (Lean.var 0)) (Lean.var 1) ◂ ∅) ◂ Lean.var 1 ◂ ∅))))
   -- no type and no length is left
   pub append_keeps : erased_bodies vectors (item 7) ≡
       Some (Thunk (Thunk (Thunk (Fun (Fun (App
-        (Lean.node (Shape.case (0 ∷ 2 ∷ [])) (
-          Fun (Lean.var 0)
-          ◂ Fun (Con 1 (Lean.var 2 ◂ App (App (Force (Force (Force (Def (item 7))))) (Lean.var 1)) (Lean.var 0) ◂ ∅))
-          ◂ Lean.var 1 ◂ ∅))
-        (Lean.var 0)))))))
+      (Lean.node (Shape.case (0 ∷ 2 ∷ [])) (
+      Fun (Lean.var 0)
+      ◂ Fun (Con 1 (Lean.var 2 ◂ App (App (Force (Force (Force (Def (item 7))))) (Lean.var 1)) (Lean.var 0) ◂ ∅))
+      ◂ Lean.var 1 ◂ ∅))
+      (Lean.var 0)))))))
   pub total_keeps : erased_bodies vectors (item 8) ≡
       Some (Thunk (Fun (Lean.node (Shape.case (0 ∷ 2 ∷ [])) (
-        Literal (literal.Int (pos 0)) ◂ Call prim.AddInt (Lean.var 1 ◂ App (Force (Def (item 8))) (Lean.var 0) ◂ ∅) ◂ Lean.var 0 ◂ ∅))))
+      Literal (literal.Int (pos 0)) ◂ Call prim.AddInt (Lean.var 1 ◂ App (Force (Def (item 8))) (Lean.var 0) ◂ ∅) ◂ Lean.var 0 ◂ ∅))))
   -- a function at 0 stays a function without argument, so that its body is not evaluated before it is forced
   pub loopy_waits : erased_bodies loops (item 0) ≡ Some (Thunk (Force (Def (item 0))))
   -- the field at 0 goes
