@@ -1,30 +1,24 @@
 -- The events of every run keep the discipline of tapes, and a typed main is never stuck.
-use Rattle.std.proofs.Common.{◌≡◌, ◌≢◌, ℕ, zero, suc, Bool, true, false, cond, List, [], ◌∷◌, ◌++◌, Option, Some, None, refl, sym, ◌∙◌, ap, subst}
-use Rattle.std.proofs.Common.{length, append_assoc}
+use Rattle.std.proofs.Common.{◌≡◌, ◌≢◌, ℕ, zero, suc, Bool, true, false, cond, List, [], ◌∷◌, ◌++◌, Option, Some, None, refl, sym, ◌∙◌, ap, subst, length, append_assoc}
 use Rattle.qtt_base.specs.declared.place.GlobalId.{GlobalId}
-use Rattle.qtt_term.specs.Substitution.{sub}
-use Rattle.qtt_term.specs.FullStep.{Cause}
-use Rattle.qtt_term.specs.FullRun.{closes_from, all_shut, at_end, start}
-use Rattle.qtt_term.proofs.Closed.{closed-kept}
-use Rattle.qtt_preserve.specs.Configuration.{open_use}
-use Rattle.qtt_preserve.proofs.Sound.{type-closed, sound_of, Bodied, bodied_of}
-use Rattle.qtt_preserve.proofs.Run.{as_use}
 use Rattle.qtt_usage.specs.Mult.{𝟘, 𝟙, ◌⊕◌}
 use Rattle.qtt_usage.specs.Uses.{Key, zero_use}
 use Rattle.qtt_prims.specs.Tapes.{Taped, with_line, shut}
 use Rattle.qtt_prims.specs.Lines.{is_line, line_of}
+use Rattle.qtt_term.specs.Substitution.{sub, closed}
+use Rattle.qtt_term.specs.FullStep.{Cause, Outcome, full_step}
+use Rattle.qtt_term.specs.FullRun.{closes_from, all_shut, at_end, start, Event, Config, Verdict, Turn, Run, at_open, resume, read, use_tape, perform, take_turn, turn, stopped, going, run_on, full}
 use Rattle.qtt_term.specs.Term.{Io, Action, Term, ε, ◌▸◌, Act, Tape, TextLit, Def}
-use Rattle.qtt_term.specs.Substitution.{closed}
 use Rattle.qtt_term.specs.Signature.{definition_at, definition_of, There, Env, UnitTy, IoTy}
 use Rattle.qtt_term.specs.Contraction.{chain, Conv}
-use Rattle.qtt_term.specs.FullStep.{Outcome, full_step}
-use Rattle.qtt_term.specs.FullRun.{Event, Config, Verdict, Turn, Run, at_open, resume, read, use_tape, perform, take_turn, turn, stopped, going, run_on, full}
 use Rattle.qtt_term.specs.Judgement.{Part, AtMost, Usable, Args, Rule}
 use Rattle.qtt_term.specs.Environment.{WellFormed, Complete, IsMain}
 use Rattle.qtt_term.specs.TapeDiscipline.{closing, after_event, open_after, AllClosed}
+use Rattle.qtt_term.proofs.Closed.{closed-kept}
 use Rattle.qtt_term.proofs.Options.{none≢some, some-injective, chain-some, cond-some}
+use Rattle.qtt_preserve.specs.Configuration.{open_use}
 use Rattle.qtt_preserve.specs.Within.{Has, HasAll}
-use Rattle.qtt_preserve.proofs.Sound.{Sound}
+use Rattle.qtt_preserve.proofs.Sound.{type-closed, sound_of, Bodied, bodied_of, Sound}
 use Rattle.qtt_preserve.proofs.Run.{as_use, Waiting, Fine, Kept, turn_kept}
 
 abbrev pub opens-of : List Taped → List Bool

@@ -7,7 +7,7 @@ use Rattle.qtt_usage.proofs.Mults.{≼-refl, ≼-trans, ⊕-zero, ⊕-mono, ⊙-
 use Rattle.qtt_term.specs.Term.{Form, Term, Terms, node, Lam}
 use Rattle.qtt_term.specs.Signature.{Tele, ConSig, FamSig, Env}
 use Rattle.qtt_term.specs.Contraction.{Conv}
-use Rattle.qtt_term.specs.Judgement.{Ctx, ext, Part, under, InRun, AtMost, Judged, BindersFit, share, sum_of, join_of, has_branch, total, Args, ParamsThenArgs, Branches, Cases, Rule, UseIs, Typed, TypedAll}
+use Rattle.qtt_term.specs.Judgement.{KeyIn, Ctx, ext, Part, under, InRun, AtMost, Judged, BindersFit, share, sum_of, join_of, has_branch, total, Args, ParamsThenArgs, Branches, Cases, Rule, UseIs, Typed, TypedAll}
 use Rattle.qtt_preserve.specs.Within.{Has, HasAll}
 use Rattle.qtt_preserve.proofs.Uses.{≼-of}
 use Rattle.qtt_preserve.proofs.Travel.{has_as, in_run₂, always}
@@ -148,6 +148,16 @@ mutual
       let (w, t, k) = has-typed h in
       let (ks, ts, r) = has-all hs in
       (record j { uses = w } ∷ ks, TypedAll.more e t (in_run₂ (under p j.mult) (λ a b. fit-less Γ j.binds w j.uses a b) k f) ts, Reused.more k r)
+
+use-as : (p : Part) (Γ : Ctx) (z w u : Use) → ((x : Key) → KeyIn Γ x → u x ≡ w x) → UseIs p Γ z w → UseIs p Γ z u
+use-as Part.run Γ z w u h e = λ x s. h x s ∙ e x s
+use-as Part.erased Γ z w u h e = λ x s. h x s ∙ e x s
+
+-- only the uses of the context's variables and of tapes matter
+pub typed-as : {E : Env} {p : Part} {Γ : Ctx} {t A : Term} {w : Use} (u : Use) → Typed E p Γ t A w → ((x : Key) → KeyIn Γ x → u x ≡ w x) → Typed E p Γ t A u
+typed-as {p = p} {Γ = Γ} {w = w} u (Typed.variable {i = i} s m e) h = Typed.variable s m (use-as p Γ (unit (Key.v i)) w u h e)
+typed-as {p = p} {Γ = Γ} {w = w} u (Typed.by_rule {js = js} {own = own} r hs e) h = Typed.by_rule r hs (use-as p Γ (total own js) w u h e)
+typed-as u (Typed.conversion d c) h = Typed.conversion (typed-as u d h) c
 
 -- ---- a dead term has every use
 data Dead : Term → Type 0 where

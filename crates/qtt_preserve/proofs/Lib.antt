@@ -12,3 +12,5 @@ pub mod Inverted
 pub mod Exactly
 pub mod Grow
 pub mod Facts
+pub mod Counted
+pub mod Worked

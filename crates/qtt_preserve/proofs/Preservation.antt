@@ -1,46 +1,39 @@
 -- A step keeps type and use.
-use Rattle.std.proofs.Common.{◌≡◌, ℕ, zero, suc, Bool, true, false, cond, List, [], ◌∷◌, length, Some, refl, sym, ◌∙◌, ap, subst, arith}
+use Rattle.std.proofs.Common.{◌≡◌, ℕ, zero, suc, Bool, true, false, cond, List, [], ◌∷◌, length, Some, refl, sym, ◌∙◌, ap, subst, arith, ℤ}
 use mathlib.Core.Path.{ap₂, subst₂}
-use Rattle.std.proofs.Common.{ℤ}
 use Rattle.qtt_base.specs.declared.place.GlobalId.{GlobalId}
-use Rattle.qtt_prims.specs.declared.answer.PrimAnswer.{PrimAnswer}
-use Rattle.qtt_prims.specs.declared.answer.PrimAnswer.TheVariants as answer
-use Rattle.qtt_prims.specs.Apply.{apply, of_numbers, of_number, of_texts}
-use Rattle.qtt_term.specs.Signature.{eq_id, eq_family, EqTy, Refl, IntTy, StringTy}
-use Rattle.qtt_term.specs.Contraction.{answer_term, computed}
-use Rattle.qtt_term.proofs.Closed.{closed-kept}
-use Rattle.qtt_term.proofs.Evaluation.{Move, Moves}
-use Rattle.qtt_confluence.specs.Injective.{Convs, PiInjective}
-use Rattle.qtt_confluence.proofs.Injective.{pi_injective, fam_injective}
-use Rattle.qtt_preserve.proofs.Travel.{in_run₂, raise}
-use Rattle.qtt_preserve.proofs.Sound.{BodiesTyped, Sound}
 use Rattle.qtt_usage.specs.declared.mult.Mult.{Mult}
 use Rattle.qtt_usage.specs.Mult.{𝟘, 𝟙, ω, ◌⊕◌, ◌⊙◌, join, ◌≼◌}
 use Rattle.qtt_usage.specs.Uses.{Key, Use, zero_use, out}
 use Rattle.qtt_usage.proofs.Mults.{≼-refl, ≼-trans, ⊕-zero, ⊕-mono, ⊙-mono}
+use Rattle.qtt_prims.specs.declared.answer.PrimAnswer.{PrimAnswer}
+use Rattle.qtt_prims.specs.declared.answer.PrimAnswer.TheVariants as answer
+use Rattle.qtt_prims.specs.Apply.{apply, of_numbers, of_number, of_texts}
 use Rattle.qtt_prims.specs.declared.lit.Lit.{Lit}
 use Rattle.qtt_prims.specs.declared.prim.Primitive.{Primitive}
-use Rattle.qtt_prims.specs.Apply.{apply}
 use Rattle.qtt_prims.specs.declared.lit.Lit.TheVariants as literal
 use Rattle.qtt_prims.specs.declared.prim.Primitive.TheVariants as prim
+use Rattle.qtt_term.specs.Signature.{eq_id, eq_family, EqTy, Refl, IntTy, StringTy, family_at, definition_at, family_of, Tele, Family, truth, BoolTy, fam_sig, ConSig, FamSig, Env, signature, prim_signature}
+use Rattle.qtt_term.specs.Contraction.{answer_term, computed, BodiesClosed, Step, Conv}
 use Rattle.qtt_term.specs.Term.{Named, Form, binders, rest, Term, Terms, var, node, ε, ◌▸◌, size, ◌+++◌, Sort, Pi, Lam, App}
 use Rattle.qtt_term.specs.Substitution.{sub, cons, push, inst, closed}
-use Rattle.qtt_term.specs.Signature.{family_at, definition_at, family_of, Tele, Family, truth, BoolTy, fam_sig, ConSig, FamSig, Env, signature, prim_signature}
 use Rattle.qtt_term.specs.Environment.{HasPrim}
-use Rattle.qtt_term.specs.Contraction.{BodiesClosed, Step, Conv}
 use Rattle.qtt_term.specs.Value.{kept, demanded}
 use Rattle.qtt_term.specs.Judgement.{IsCon, Ctx, mult_at, type_at, Part, under, InRun, AtMost, Usable, Judged, judged, share, sum_of, join_of, has_branch, total, Args, ParamsThenArgs, Branches, Cases, Rule}
+use Rattle.qtt_term.proofs.Closed.{closed-kept}
+use Rattle.qtt_term.proofs.Evaluation.{Move, Moves}
 use Rattle.qtt_term.proofs.Subst.{sub-id, cons-ren}
 use Rattle.qtt_term.proofs.Options.{none≢some, some-injective}
-use Rattle.qtt_confluence.specs.Injective.{PiInjective, Convs}
+use Rattle.qtt_confluence.specs.Injective.{Convs, PiInjective}
+use Rattle.qtt_confluence.proofs.Injective.{pi_injective, fam_injective}
 use Rattle.qtt_confluence.proofs.Root.{Root, view}
 use Rattle.qtt_confluence.proofs.Confluence.{convs-same, conv-inside, conv-sub, conv-fill, conv-inst, push-conv}
-use Rattle.qtt_confluence.proofs.Injective.{pi_injective}
 use Rattle.qtt_confluence.proofs.Families.{family_injective}
 use Rattle.qtt_preserve.specs.Within.{Has, HasAll}
 use Rattle.qtt_preserve.specs.Through.{through}
+use Rattle.qtt_preserve.proofs.Travel.{in_run₂, raise, in_run, in_run₃, has_as, usable-under, always}
+use Rattle.qtt_preserve.proofs.Sound.{BodiesTyped, Sound}
 use Rattle.qtt_preserve.proofs.Uses.{≼-of, one_row, through-one, through-zero}
-use Rattle.qtt_preserve.proofs.Travel.{in_run, in_run₃, has_as, usable-under, always}
 use Rattle.qtt_preserve.proofs.Substitution.{has_var, Fills, substitution}
 use Rattle.qtt_preserve.proofs.Iota.{has_iota, no_branch}
 

@@ -2,31 +2,29 @@
 use Rattle.std.proofs.Common.{◌≡◌, ℕ, suc, ℤ, Bool, true, false, cond, List, [], ◌∷◌, length, Option, Some, refl, sym, ◌∙◌, ap, subst}
 use mathlib.Core.Path.{ap₂, subst₂}
 use Rattle.qtt_base.specs.declared.place.GlobalId.{GlobalId}
-use Rattle.qtt_prims.specs.declared.answer.PrimAnswer.TheVariants as answer
-use Rattle.qtt_term.specs.Signature.{Family, family_of, fam_sig, eq_id, eq_family, EqTy}
-use Rattle.qtt_term.specs.FullStep.{answers}
-use Rattle.qtt_term.specs.Environment.{HasPrim}
-use Rattle.qtt_term.proofs.Evaluation.{contracts-value, primitive-value, behind-values, before-values}
-use Rattle.qtt_preserve.proofs.Sound.{Bodied}
 use Rattle.qtt_usage.specs.declared.mult.Mult.{Mult}
 use Rattle.qtt_usage.specs.Mult.{𝟘, 𝟙, ω}
 use Rattle.qtt_usage.specs.Uses.{Use}
+use Rattle.qtt_prims.specs.declared.answer.PrimAnswer.TheVariants as answer
 use Rattle.qtt_prims.specs.declared.lit.Lit.{Lit}
 use Rattle.qtt_prims.specs.declared.prim.Primitive.{Primitive}
 use Rattle.qtt_prims.specs.declared.lit.Lit.TheVariants as literal
 use Rattle.qtt_prims.specs.declared.prim.Primitive.TheVariants as prim
+use Rattle.qtt_term.specs.Signature.{Family, family_of, fam_sig, eq_id, eq_family, EqTy, family_at, Tele, Constructor, ConSig, con_sigs, FamSig, fam_at, Env, IntTy, StringTy, HandleTy, signature, prim_signature}
+use Rattle.qtt_term.specs.FullStep.{answers, Outcome, Outcomes, behind, before, component, contracts_to, itself, finish, full_step, full_steps}
+use Rattle.qtt_term.specs.Environment.{HasPrim}
 use Rattle.qtt_term.specs.Term.{Io, PrimTy, Action, Named, Form, binders, zeros, Term, Terms, var, node, ε, ◌▸◌, size, skip, Sort, Pi, Lam, IntLit, TextLit}
 use Rattle.qtt_term.specs.Substitution.{sub, push, closed}
-use Rattle.qtt_term.specs.Signature.{family_at, Tele, Constructor, ConSig, con_sigs, FamSig, fam_at, Env, IntTy, StringTy, HandleTy, signature, prim_signature}
 use Rattle.qtt_term.specs.Contraction.{BodiesClosed, contract, Conv}
-use Rattle.qtt_term.specs.FullStep.{Outcome, Outcomes, behind, before, component, contracts_to, itself, finish, full_step, full_steps}
 use Rattle.qtt_term.specs.Value.{mults, field_mults, kept, demanded}
 use Rattle.qtt_term.specs.Judgement.{IsCon, Ctx, ext, Part, under, Usable, Judged, judged, scale, Args, ParamsThenArgs, Branches, Cases, Rule}
+use Rattle.qtt_term.proofs.Evaluation.{contracts-value, primitive-value, behind-values, before-values}
 use Rattle.qtt_confluence.proofs.Root.{ScrutineeAt, BranchAt, Picks, Root, contracts}
 use Rattle.qtt_confluence.proofs.Confluence.{Stiff, stiff-nodes}
 use Rattle.qtt_confluence.proofs.Injective.{stiff-sort, stiff-pi, stiff-fam, stiff-prim_ty}
 use Rattle.qtt_confluence.proofs.Families.{is_con-sig}
 use Rattle.qtt_preserve.specs.Within.{Has, HasAll}
+use Rattle.qtt_preserve.proofs.Sound.{Bodied}
 use Rattle.qtt_preserve.proofs.Uses.{length-sub_binds}
 use Rattle.qtt_preserve.proofs.Travel.{length-scale}
 use Rattle.qtt_preserve.proofs.Iota.{args-size}

@@ -2,35 +2,30 @@
 use Rattle.std.proofs.Common.{◌≡◌, ℕ, zero, suc, Bool, true, false, cond, List, [], ◌∷◌, ◌++◌, length, Option, Some, refl, sym, ◌∙◌, ap, subst, arith}
 use mathlib.Core.Path.{subst₂}
 use Rattle.qtt_base.specs.declared.place.GlobalId.{GlobalId}
-use Rattle.qtt_prims.specs.Tapes.{new_tape}
-use Rattle.qtt_prims.specs.declared.lit.Lit.TheVariants as literal
-use Rattle.qtt_term.proofs.Evaluation.{finish-values}
-use Rattle.qtt_preserve.specs.Configuration.{open_use}
-use Rattle.qtt_term.specs.Signature.{index_binders}
-use Rattle.qtt_preserve.proofs.Sound.{Sound, Bodied}
 use Rattle.qtt_usage.specs.declared.mult.Mult.{Mult}
 use Rattle.qtt_usage.specs.Mult.{𝟘, 𝟙, ω, ◌⊕◌, ◌⊙◌, ◌≼◌}
 use Rattle.qtt_usage.specs.Uses.{Key, Use, unit, nat_unit, zero_use}
 use Rattle.qtt_usage.proofs.Mults.{≼-refl, ⊕-zero}
-use Rattle.qtt_prims.specs.Tapes.{Taped, with_line, shut}
-use Rattle.qtt_prims.specs.Lines.{is_line, line_of, after_line}
+use Rattle.qtt_prims.specs.Tapes.{new_tape, Taped, with_line, shut}
 use Rattle.qtt_prims.specs.declared.lit.Lit.TheVariants as literal
+use Rattle.qtt_prims.specs.Lines.{is_line, line_of, after_line}
+use Rattle.qtt_term.specs.Signature.{index_binders, family_at, family_of, There, Family, Env, UnitTy, MkUnit, LineTy, Eof, Got, HandleTy, IoTy, mult_of, act_signature}
 use Rattle.qtt_term.specs.Term.{Io, PrimTy, Action, Named, Form, Term, Terms, node, ε, ◌▸◌, Sort, Pi, App, Act, Tape, TextLit}
 use Rattle.qtt_term.specs.Substitution.{ren, sub, push, inst, closed}
-use Rattle.qtt_term.specs.Signature.{family_at, family_of, There, Family, Env, UnitTy, MkUnit, LineTy, Eof, Got, HandleTy, IoTy, mult_of, act_signature}
 use Rattle.qtt_term.specs.Contraction.{Conv}
 use Rattle.qtt_term.specs.FullStep.{Cause, Outcome, Outcomes, finish, full_step, full_steps}
 use Rattle.qtt_term.specs.FullRun.{Event, Config, Verdict, Turn, pure_unit, pure_handle, pure_line, at_open, resume, read, use_tape, perform, take_turn, turn}
 use Rattle.qtt_term.specs.Value.{mults}
 use Rattle.qtt_term.specs.Judgement.{erase_binds, IsCon, Part, under, AtMost, Judged, total, Args, ParamsThenArgs, Rule}
+use Rattle.qtt_term.proofs.Evaluation.{finish-values, full-move, before-values}
 use Rattle.qtt_term.proofs.Options.{none≢some, some-injective, chain-some, cond-some}
 use Rattle.qtt_term.proofs.Subst.{inst-ren}
-use Rattle.qtt_term.proofs.Evaluation.{full-move, before-values}
 use Rattle.qtt_confluence.specs.Injective.{Convs}
 use Rattle.qtt_confluence.proofs.Confluence.{conv-inside}
 use Rattle.qtt_confluence.proofs.Injective.{io_injective, stiff-prim_ty}
+use Rattle.qtt_preserve.specs.Configuration.{open_use}
 use Rattle.qtt_preserve.specs.Within.{Has, HasAll}
-use Rattle.qtt_preserve.proofs.Sound.{Sound}
+use Rattle.qtt_preserve.proofs.Sound.{Sound, Bodied}
 use Rattle.qtt_preserve.proofs.Uses.{≼-of}
 use Rattle.qtt_preserve.proofs.Travel.{always, has_as}
 use Rattle.qtt_preserve.proofs.Preservation.{rule-con, preservation}

@@ -4,3 +4,4 @@ pub mod Configuration
 pub mod Inversion
 pub mod Grows
 pub mod Laws
+pub mod Examples

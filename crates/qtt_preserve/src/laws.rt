@@ -8,7 +8,9 @@ ghost use Rattle.qtt_term.specs.Signature.{Env};
 ghost use Rattle.qtt_term.specs.Contraction.{BodiesClosed};
 ghost use Rattle.qtt_term.specs.Judgement.{Part, Ctx};
 ghost use Rattle.qtt_term.specs.Environment.{WellFormed, Complete, IsMain};
+ghost use Rattle.qtt_term.specs.Programs.{handles, trapping};
 ghost use Rattle.qtt_preserve.specs.Inversion.{Inversion};
+ghost use Rattle.qtt_preserve.specs.Examples.{HandlesAreLinear, IsProgram};
 ghost use Rattle.qtt_preserve.specs.Laws.{UsesAreExact, SubstitutionWithUses, StepKeepsTypeAndUse, StepsAreNeverStuck, RunKeepsTapes, NeverStuck, TapesClosedOnce, DerivationsGrow};
 
 /// A term has a type with at most a use exactly where it has it with an exact use within that one.
@@ -54,4 +56,16 @@ pub fn tapes_closed_once()
 /// Adding to an environment keeps the derivations.
 pub fn derivations_grow()
     ensures { DerivationsGrow }
+{}
+
+/// What closes an open tape uses it exactly once; a program that drops its handle has no type, and neither has one that closes it twice.
+pub fn handles_are_linear()
+    ensures { (E : Env) → HandlesAreLinear E }
+{}
+
+/// The laws speak of something: a program that opens, writes and closes a tape, and one that traps while its tape is open, are well
+/// formed and complete.
+pub fn examples_are_programs()
+    ensures handles { IsProgram handles }
+    ensures trapping { IsProgram trapping }
 {}
