@@ -16,7 +16,7 @@ ContractionIsConfluent = (E : Env) → BodiesClosed E → (t s : Term) → Conv 
 abbrev pub TypesAreInjective : Type 0
 TypesAreInjective = (E : Env) → BodiesClosed E → Injective E
 
--- two heads with different forms or fixed parts are not convertible
+-- two heads, which are what `head` finds, with different forms or fixed parts are not convertible
 abbrev pub RigidHeadsDiffer : Type 0
 RigidHeadsDiffer =
     (E : Env) → BodiesClosed E → (t s : Term) → IsHead E t → IsHead E s → outline t ≢ outline s → Conv E t s → ⊥
@@ -26,7 +26,7 @@ abbrev pub ConvertibleHeadsAgree : Type 0
 ConvertibleHeadsAgree =
     (E : Env) → BodiesClosed E → (t s : Term) → IsHead E t → IsHead E s → Conv E t s → (outline t ≡ outline s) × Convs E (parts t) (parts s)
 
--- within n contractions there is the head that so many of them lead to, at most n, or n + 1 can be made
+-- within n contractions: the head to which k of them lead, at most n, is found after k; none is found exactly where n + 1 can be made
 pub record HeadIsExact : Type 0 where
   pub found : (E : Env) (n k : ℕ) (t h : Term) → (head E n t ≡ Head.done h k) ↔ (Toward E k t h × IsHead E h × (k ≤ n))
   pub spent : (E : Env) (n : ℕ) (t : Term) → (head E n t ≡ Head.spent) ↔ ((s : Term) × Toward E (suc n) t s)
