@@ -21,15 +21,17 @@ use Rattle.qtt_term.specs.FullStep as full
 use Rattle.qtt_term.specs.Judgement.{Part, Usable}
 use Rattle.qtt_term.proofs.Options.{none≢some, some-injective, chain-some}
 use Rattle.qtt_erase.specs.Lean as lean
-use Rattle.qtt_erase.specs.Lean.{Shape, waiting, Lean, Leans, ∅, ◌◂◌}
-use Rattle.qtt_erase.specs.LeanStep as step
-use Rattle.qtt_erase.specs.LeanStep.{Outcome, lean_step, lean_steps}
-use Rattle.qtt_erase.specs.Erasure.{Slot, Fate, arguments, without, branches, fates, kept_binders, shape, extend, erase, erases, erased_body, erased_bodies}
+use Rattle.qtt_erase.specs.Binding.{∅, ◌◂◌}
+use Rattle.qtt_erase.specs.Operator.{waiting_of}
+use Rattle.qtt_erase.specs.Step as step
+use Rattle.qtt_erase.specs.Step.{Outcome, nexts}
+use Rattle.qtt_erase.specs.Lean.{Abstraction, Lean, Leans, abstractions}
+use Rattle.qtt_erase.specs.Erasure.{Slot, Fate, arguments, without, branches, fates, kept_binders, operator, extend, erase, erases, erased_body, erased_bodies}
 use Rattle.qtt_erase.specs.ErasedUse.{NamesNoZero, NoErasedUse, NoErasedUses, Erasable}
-use Rattle.qtt_erase.specs.Laws.{next, ErasedTermsRunInStep}
+use Rattle.qtt_erase.specs.Laws.{erased_step, ErasedTermsRunInStep}
 use Rattle.qtt_erase.proofs.Contracting.{as_lam-is, as_lit-is, beta-filled, beta-gone, iota-erased, deletion-erased, nothing-erased, erases-without, cleans-without}
 
--- ---- what is evaluated of a form is what is evaluated of its shape
+-- ---- what is evaluated of a form is what is evaluated of its operator
 -- multiplicities of components, their fates, and how many of those that are left wait
 abbrev pub Evaluated : List Mult → List Fate → ℕ → Type 0
 Evaluated [] [] n = Unit {0}
@@ -66,7 +68,7 @@ branches-wait q cs [] = tt
 branches-wait q [] (n ∷ ns) = branches-wait q [] ns
 branches-wait q (c ∷ cs) (n ∷ ns) = branches-wait q cs ns
 
-form-evaluated : (E : Env) (F : Form) → Evaluated (demanded E F) (fates E F) (waiting (shape E F))
+form-evaluated : (E : Env) (F : Form) → Evaluated (demanded E F) (fates E F) (waiting_of abstractions.waiting (operator E F))
 form-evaluated E (Form.lam 𝟘) = tt
 form-evaluated E (Form.lam 𝟙) = tt
 form-evaluated E (Form.lam ω) = tt
@@ -96,13 +98,13 @@ contracts-no_value : (o : Option Lean) → step.contracts_to o ≢ Outcome.value
 contracts-no_value None e = cc e
 contracts-no_value (Some t) e = cc e
 
-answers-no_value : (a : PrimAnswer) → step.answers a ≢ Outcome.value
+answers-no_value : (a : PrimAnswer) → step.answers {A = Abstraction} a ≢ Outcome.value
 answers-no_value (answer.Value l) e = cc e
 answers-no_value (answer.Truth b) e = cc e
 answers-no_value answer.DivisionByZero e = cc e
 answers-no_value answer.IllTyped e = cc e
 
-primitive-no_value : (p : Primitive) (o : Option (List Lit)) → step.primitive p o ≢ Outcome.value
+primitive-no_value : (p : Primitive) (o : Option (List Lit)) → step.primitive {A = Abstraction} p o ≢ Outcome.value
 primitive-no_value p None e = cc e
 primitive-no_value p (Some ls) e = answers-no_value (apply p ls) e
 
@@ -127,23 +129,23 @@ module _ (E : Env) where
 
   -- ---- beta
   thunk-called : (g a : Term) (m : whole.Function) (r : Term) → whole.as_lam g ≡ Some m → whole.call 𝟘 a m ≡ Some r → NoErasedUse E [] g →
-      (step.as_thunk (erase E [] g) ≡ Some (erase E [] r)) × NoErasedUse E [] r
+      (step.forcing abstractions (erase E [] g ◂ ∅) ≡ Some (erase E [] r)) × NoErasedUse E [] r
   thunk-called g a (whole.Function.function 𝟘 b) r eg e u =
       let l = as_lam-is g 𝟘 b eg in
       let w = beta-gone E b a (let v : NoErasedUse E [] (Lam 𝟘 l.0 b) = subst (NoErasedUse E []) l.1 u in v.1.0) in
       let h : inst b a ≡ r = some-injective e in
-      (ap (λ x. step.as_thunk (erase E [] x)) l.1 ∙ ap Some (w.0 ∙ ap (erase E []) h), subst (NoErasedUse E []) h w.1)
+      (ap (λ x. step.forcing abstractions (erase E [] x ◂ ∅)) l.1 ∙ ap Some (w.0 ∙ ap (erase E []) h), subst (NoErasedUse E []) h w.1)
   thunk-called g a (whole.Function.function 𝟙 b) r eg e u = absurd (none≢some e)
   thunk-called g a (whole.Function.function ω b) r eg e u = absurd (none≢some e)
 
   applied : (g a b r : Term) → erase E [] g ≡ lean.Fun (erase E (Slot.filled ∷ []) b) → NoErasedUse E (Slot.filled ∷ []) b → NoErasedUse E [] a → inst b a ≡ r →
-      (step.beta (erase E [] g ◂ erase E [] a ◂ ∅) ≡ Some (erase E [] r)) × NoErasedUse E [] r
+      (step.beta abstractions (erase E [] g ◂ erase E [] a ◂ ∅) ≡ Some (erase E [] r)) × NoErasedUse E [] r
   applied g a b r eg u v h =
       let w = beta-filled E b a u v in
-      (ap (λ x. step.beta (x ◂ erase E [] a ◂ ∅)) eg ∙ ap Some (w.0 ∙ ap (erase E []) h), subst (NoErasedUse E []) h w.1)
+      (ap (λ x. step.beta abstractions (x ◂ erase E [] a ◂ ∅)) eg ∙ ap Some (w.0 ∙ ap (erase E []) h), subst (NoErasedUse E []) h w.1)
 
   fun-called : (q : Mult) (g a : Term) (m : whole.Function) (r : Term) → Usable Part.run q → whole.as_lam g ≡ Some m → whole.call q a m ≡ Some r →
-      NoErasedUse E [] g → NoErasedUse E [] a → (step.beta (erase E [] g ◂ erase E [] a ◂ ∅) ≡ Some (erase E [] r)) × NoErasedUse E [] r
+      NoErasedUse E [] g → NoErasedUse E [] a → (step.beta abstractions (erase E [] g ◂ erase E [] a ◂ ∅) ≡ Some (erase E [] r)) × NoErasedUse E [] r
   fun-called 𝟘 g a m r used eg e u v = absurd used
   fun-called 𝟙 g a (whole.Function.function 𝟙 b) r used eg e u v =
       let l = as_lam-is g 𝟙 b eg in
@@ -159,14 +161,14 @@ module _ (E : Env) where
   fun-called ω g a (whole.Function.function 𝟙 b) r used eg e u v = absurd (none≢some e)
 
   forced-agrees : (ts : Terms) (r : Term) → whole.beta 𝟘 ts ≡ Some r → NoErasedUses E [] (Some [] ∷ None ∷ []) ts →
-      (step.forced (erases E [] (Some [] ∷ None ∷ []) ts) ≡ Some (erase E [] r)) × NoErasedUse E [] r
+      (step.forcing abstractions (erases E [] (Some [] ∷ None ∷ []) ts) ≡ Some (erase E [] r)) × NoErasedUse E [] r
   forced-agrees (g ▸ a ▸ ε) r e u =
       let m = chain-some (whole.as_lam g) (whole.call 𝟘 a) r e in
       thunk-called g a m.0 r m.1 m.2 u.0
   forced-agrees _ r e u = absurd (none≢some e)
 
   beta-agrees : (q : Mult) → Usable Part.run q → (ts : Terms) (r : Term) → whole.beta q ts ≡ Some r → NoErasedUses E [] (Some [] ∷ Some [] ∷ []) ts →
-      (step.beta (erases E [] (Some [] ∷ Some [] ∷ []) ts) ≡ Some (erase E [] r)) × NoErasedUse E [] r
+      (step.beta abstractions (erases E [] (Some [] ∷ Some [] ∷ []) ts) ≡ Some (erase E [] r)) × NoErasedUse E [] r
   beta-agrees q used (g ▸ a ▸ ε) r e u =
       let m = chain-some (whole.as_lam g) (whole.call q a) r e in
       fun-called q g a m.0 r used m.1 m.2 u.0 u.1.0
@@ -273,7 +275,7 @@ module _ (E : Env) where
 
   -- ---- each form
   itself-agrees : Erasable E → (F : Form) (ts : Terms) → NamesNoZero E F → NoErasedUses E [] (fates E F) ts →
-      Agrees (full.itself E F ts) (step.itself (erased_bodies E) (shape E F) (erases E [] (fates E F) ts))
+      Agrees (full.itself E F ts) (step.itself abstractions (erased_bodies E) (operator E F) (erases E [] (fates E F) ts))
   unfolding contract
   itself-agrees h (Form.app 𝟘) ts n u = contracts-agree _ _ (λ r e. forced-agrees ts r e u)
   itself-agrees h (Form.app 𝟙) ts n u = contracts-agree _ _ (λ r e. beta-agrees 𝟙 tt ts r e u)
@@ -285,7 +287,7 @@ module _ (E : Env) where
       contracts-agree (whole.iota f ns (skip k ts)) _ (λ r e.
       let fs : List Fate = None ∷ branches q (family_at E f).constructors ns in
       let w = iota-erased E q f ns (skip k ts) r e (cleans-without E k fs ts u) in
-      (ap (step.iota (kept_binders q (family_at E f).constructors ns)) (erases-without E k fs ts) ∙ w.0, w.1))
+      (ap (step.iota abstractions (kept_binders q (family_at E f).constructors ns)) (erases-without E k fs ts) ∙ w.0, w.1))
   itself-agrees h (Form.delete q) ts n u = contracts-agree _ _ (λ r e. deletion-erased E h ts r e u)
   itself-agrees h (Form.named (Named.def d)) ts n u = contracts-agree _ _ (λ r e. delta-agrees h d n ts r e)
   itself-agrees h (Form.named (Named.prim p)) ts n u = primitive-agrees p ts (whole.literals ts) refl
@@ -300,13 +302,13 @@ module _ (E : Env) where
   itself-agrees h (Form.tape m) ts n u = refl
 
   finish-agrees : (F : Form) (ts : Terms) (o : full.Outcomes) (l : Outcome Leans) → NamesNoZero E F →
-      Agrees (full.itself E F ts) (step.itself (erased_bodies E) (shape E F) (erases E [] (fates E F) ts)) → AllAgree (fates E F) o l →
-      Agrees (full.finish E F ts o) (step.finish (erased_bodies E) (shape E F) (erases E [] (fates E F) ts) l)
+      Agrees (full.itself E F ts) (step.itself abstractions (erased_bodies E) (operator E F) (erases E [] (fates E F) ts)) → AllAgree (fates E F) o l →
+      Agrees (full.finish E F ts o) (step.finish abstractions (erased_bodies E) (operator E F) (erases E [] (fates E F) ts) l)
   finish-agrees F ts full.Outcomes.values l n h a =
-      subst (λ l. Agrees (full.itself E F ts) (step.finish (erased_bodies E) (shape E F) (erases E [] (fates E F) ts) l)) (sym a) h
+      subst (λ l. Agrees (full.itself E F ts) (step.finish abstractions (erased_bodies E) (operator E F) (erases E [] (fates E F) ts) l)) (sym a) h
   finish-agrees F ts (full.Outcomes.steps ss) l n h a =
-      (ap (step.finish (erased_bodies E) (shape E F) (erases E [] (fates E F) ts)) a.0, (n, a.1))
-  finish-agrees F ts (full.Outcomes.traps k) l n h a = ap (step.finish (erased_bodies E) (shape E F) (erases E [] (fates E F) ts)) a
+      (ap (step.finish abstractions (erased_bodies E) (operator E F) (erases E [] (fates E F) ts)) a.0, (n, a.1))
+  finish-agrees F ts (full.Outcomes.traps k) l n h a = ap (step.finish abstractions (erased_bodies E) (operator E F) (erases E [] (fates E F) ts)) a
   finish-agrees F ts full.Outcomes.sticks Outcome.value n h a = absurd (a refl)
   finish-agrees F ts full.Outcomes.sticks (Outcome.step s) n h a = λ e. cc e
   finish-agrees F ts full.Outcomes.sticks (Outcome.trap k) n h a = λ e. cc e
@@ -341,7 +343,7 @@ module _ (E : Env) where
   before-agrees fs full.Outcome.stuck (Outcome.trap c) t ts r k u v a b = λ e. cc e
   before-agrees fs full.Outcome.stuck Outcome.stuck t ts r k u v a b = λ e. cc e
 
-  all-wait : (ts : Terms) (fs : List Fate) (n : ℕ) → Evaluated [] fs n → lean_steps (erased_bodies E) n (erases E [] fs ts) ≡ Outcome.value
+  all-wait : (ts : Terms) (fs : List Fate) (n : ℕ) → Evaluated [] fs n → nexts abstractions (erased_bodies E) n (erases E [] fs ts) ≡ Outcome.value
   all-wait ε fs n h = refl
   all-wait (t ▸ ts) [] n h = refl
   all-wait (t ▸ ts) (None ∷ fs) n h = all-wait ts fs n h
@@ -358,13 +360,13 @@ module _ (E : Env) where
 
   module _ (h : Erasable E) where
     mutual
-      pub term-agrees : (t : Term) → NoErasedUse E [] t → Agrees (full.full_step E t) (next E t)
+      pub term-agrees : (t : Term) → NoErasedUse E [] t → Agrees (full.full_step E t) (erased_step E t)
       term-agrees (var i) u = absurd u
       term-agrees (node F ts) u =
-          finish-agrees F ts _ _ u.0 (itself-agrees h F ts u.0 u.1) (terms-agree ts (demanded E F) (fates E F) (waiting (shape E F)) (form-evaluated E F) u.1)
+          finish-agrees F ts _ _ u.0 (itself-agrees h F ts u.0 u.1) (terms-agree ts (demanded E F) (fates E F) (waiting_of abstractions.waiting (operator E F)) (form-evaluated E F) u.1)
 
       terms-agree : (ts : Terms) (ms : List Mult) (fs : List Fate) (n : ℕ) → Evaluated ms fs n → NoErasedUses E [] fs ts →
-          AllAgree fs (full.full_steps E ms ts) (lean_steps (erased_bodies E) n (erases E [] fs ts))
+          AllAgree fs (full.full_steps E ms ts) (nexts abstractions (erased_bodies E) n (erases E [] fs ts))
       terms-agree ε [] fs n w u = refl
       terms-agree ε (m ∷ ms) fs n w u = refl
       terms-agree (t ▸ ts) [] fs n w u = all-wait (t ▸ ts) fs n w
@@ -388,9 +390,9 @@ module _ (E : Env) where
 
 pub in_step : ErasedTermsRunInStep
 in_step E h = record {
-  values = λ t u e. subst (λ o. Agrees E o (next E t)) e (term-agrees E h t u);
-  steps = λ t s u e. let p : Agrees E (full.Outcome.step s) (next E t) = subst (λ o. Agrees E o (next E t)) e (term-agrees E h t u) in p.0;
-  traps = λ t k u e. subst (λ o. Agrees E o (next E t)) e (term-agrees E h t u);
-  sticks = λ t u e. subst (λ o. Agrees E o (next E t)) e (term-agrees E h t u);
-  kept = λ t s u e. let p : Agrees E (full.Outcome.step s) (next E t) = subst (λ o. Agrees E o (next E t)) e (term-agrees E h t u) in p.1;
+  values = λ t u e. subst (λ o. Agrees E o (erased_step E t)) e (term-agrees E h t u);
+  steps = λ t s u e. let p : Agrees E (full.Outcome.step s) (erased_step E t) = subst (λ o. Agrees E o (erased_step E t)) e (term-agrees E h t u) in p.0;
+  traps = λ t k u e. subst (λ o. Agrees E o (erased_step E t)) e (term-agrees E h t u);
+  sticks = λ t u e. subst (λ o. Agrees E o (erased_step E t)) e (term-agrees E h t u);
+  kept = λ t s u e. let p : Agrees E (full.Outcome.step s) (erased_step E t) = subst (λ o. Agrees E o (erased_step E t)) e (term-agrees E h t u) in p.1;
 }

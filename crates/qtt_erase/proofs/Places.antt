@@ -1,6 +1,6 @@
 -- Erasure commutes with renaming and with substitution, for terms without erased uses.
 use Rattle.std.proofs.Common.{◌≡◌, ℕ, zero, suc, List, [], ◌∷◌, length, Some, None, refl, sym, ◌∙◌, ap, subst}
-use mathlib.Core.Path.{fun_ext, ap₂}
+use mathlib.Core.Path.{ap₂}
 use Rattle.qtt_usage.specs.declared.mult.Mult.{Mult}
 use Rattle.qtt_usage.specs.Mult.{𝟘, 𝟙, ω}
 use Rattle.qtt_term.specs.Term.{Named, Form, Term, Terms, var, node, ε, ◌▸◌, binders, first, rest, zeros}
@@ -8,9 +8,11 @@ use Rattle.qtt_term.specs.Substitution.{ren, rens, lift_ren, lifts_ren, sub, sub
 use Rattle.qtt_term.specs.Signature.{Constructor, Env, family_at, signature}
 use Rattle.qtt_term.specs.Value.{mults, field_mults}
 use Rattle.qtt_erase.specs.Lean as lean
-use Rattle.qtt_erase.specs.Lean.{Shape, Lean, Leans, ∅, ◌◂◌}
-use Rattle.qtt_erase.specs.LeanSubstitution as small
-use Rattle.qtt_erase.specs.Erasure.{Slot, field_slots, counted, places, Slots, extend, slot_at, place_at, variable, Fate, arguments, without, branches, fates, kept_binders, shape, erase, erases}
+use Rattle.qtt_erase.specs.Lean.{Lean}
+use Rattle.qtt_erase.specs.Binding as small
+use Rattle.qtt_erase.specs.Binding.{Tree, ∅, ◌◂◌}
+use Rattle.qtt_erase.specs.Erasure.{Slot, field_slots, counted, places, Slots, extend, slot_at, place_at, variable, Fate, arguments, without, branches, fates, kept_binders, operator, erase, erases}
+use Rattle.qtt_erase.proofs.Bindings.{ren-id}
 use Rattle.qtt_erase.specs.ErasedUse.{IsFilled, NoErasedUse, NoErasedUses}
 
 -- ---- the binders of what is left are the places of the slots
@@ -44,7 +46,7 @@ branches-fit q cs [] = (refl, refl, tt)
 branches-fit q [] (n ∷ ns) = (slots-length q [] n, refl, branches-fit q [] ns)
 branches-fit q (c ∷ cs) (n ∷ ns) = (slots-length q (mults c.fields) n, refl, branches-fit q cs ns)
 
-pub fates-fit : (E : Env) (F : Form) → Fitting (binders F) (fates E F) (lean.binders (shape E F))
+pub fates-fit : (E : Env) (F : Form) → Fitting (binders F) (fates E F) (lean.binders (operator E F))
 fates-fit E (Form.lam 𝟘) = (refl, refl, tt)
 fates-fit E (Form.lam 𝟙) = (refl, refl, tt)
 fates-fit E (Form.lam ω) = (refl, refl, tt)
@@ -99,8 +101,8 @@ renames-extend (Slot.gone ∷ ss) Γ Δ ρ π h = renames-extend ss _ _ _ _ (ren
 renames-extend (Slot.blank ∷ ss) Γ Δ ρ π h = renames-extend ss _ _ _ _ (renames-lift Slot.blank Γ Δ ρ π h)
 renames-extend (Slot.filled ∷ ss) Γ Δ ρ π h = renames-extend ss _ _ _ _ (renames-lift Slot.filled Γ Δ ρ π h)
 
-variable-renamed : (s t : Slot) (π : ℕ → ℕ) (n m : ℕ) → IsFilled s → IsFilled t → m ≡ π n → variable t m ≡ small.ren π (variable s n)
-variable-renamed Slot.filled Slot.filled π n m u v e = ap Lean.var e
+variable-renamed : (s t : Slot) (π : ℕ → ℕ) (n m : ℕ) → IsFilled s → IsFilled t → m ≡ π n → variable t m ≡ small.ren lean.binders π (variable s n)
+variable-renamed Slot.filled Slot.filled π n m u v e = ap Tree.var e
 variable-renamed Slot.gone t π n m u v e = absurd u
 variable-renamed Slot.blank t π n m u v e = absurd u
 variable-renamed Slot.filled Slot.gone π n m u v e = absurd v
@@ -108,20 +110,20 @@ variable-renamed Slot.filled Slot.blank π n m u v e = absurd v
 
 module _ (E : Env) where
   mutual
-    pub erase-ren : (t : Term) (Γ Δ : Slots) (ρ π : ℕ → ℕ) → Renames Γ Δ ρ π → NoErasedUse E Γ t → erase E Δ (ren ρ t) ≡ small.ren π (erase E Γ t)
+    pub erase-ren : (t : Term) (Γ Δ : Slots) (ρ π : ℕ → ℕ) → Renames Γ Δ ρ π → NoErasedUse E Γ t → erase E Δ (ren ρ t) ≡ small.ren lean.binders π (erase E Γ t)
     erase-ren (var i) Γ Δ ρ π h u =
         variable-renamed (slot_at Γ i) (slot_at Δ (ρ i)) π (place_at Γ i) (place_at Δ (ρ i)) u (h.filled i u) (h.placed i u)
-    erase-ren (node F ts) Γ Δ ρ π h u = ap (Lean.node (shape E F)) (erases-rens ts _ _ _ Γ Δ ρ π (fates-fit E F) h u.1)
+    erase-ren (node F ts) Γ Δ ρ π h u = ap (Tree.node (operator E F)) (erases-rens ts _ _ _ Γ Δ ρ π (fates-fit E F) h u.1)
 
     erases-rens : (ts : Terms) (ns : List ℕ) (fs : List Fate) (ks : List ℕ) (Γ Δ : Slots) (ρ π : ℕ → ℕ) → Fitting ns fs ks → Renames Γ Δ ρ π →
-        NoErasedUses E Γ fs ts → erases E Δ fs (rens ns ρ ts) ≡ small.rens ks π (erases E Γ fs ts)
+        NoErasedUses E Γ fs ts → erases E Δ fs (rens ns ρ ts) ≡ small.rens lean.binders ks π (erases E Γ fs ts)
     erases-rens ε ns fs ks Γ Δ ρ π w h u = refl
     erases-rens (t ▸ ts) ns [] ks Γ Δ ρ π w h u = refl
     erases-rens (t ▸ ts) ns (None ∷ fs) ks Γ Δ ρ π w h u = erases-rens ts (rest ns) fs ks Γ Δ ρ π w h u
     erases-rens (t ▸ ts) ns (Some ss ∷ fs) ks Γ Δ ρ π w h u =
         ap₂ ◌◂◌
-        (subst (λ n. erase E (extend Δ ss) (ren (lifts_ren n ρ) t) ≡ small.ren (lifts_ren (first ks) π) (erase E (extend Γ ss) t)) w.0
-        (subst (λ k. erase E (extend Δ ss) (ren (lifts_ren (length ss) ρ) t) ≡ small.ren (lifts_ren k π) (erase E (extend Γ ss) t)) w.1
+        (subst (λ n. erase E (extend Δ ss) (ren (lifts_ren n ρ) t) ≡ small.ren lean.binders (lifts_ren (first ks) π) (erase E (extend Γ ss) t)) w.0
+        (subst (λ k. erase E (extend Δ ss) (ren (lifts_ren (length ss) ρ) t) ≡ small.ren lean.binders (lifts_ren k π) (erase E (extend Γ ss) t)) w.1
         (erase-ren t (extend Γ ss) (extend Δ ss) _ _ (renames-extend ss Γ Δ ρ π h) u.0)))
         (erases-rens ts (rest ns) fs (rest ks) Γ Δ ρ π w.2 h u.1)
 
@@ -141,47 +143,6 @@ module _ (E : Env) where
       cleans-rens ts (rest ns) fs (rest ks) Γ Δ ρ π w.2 h u.1,
     )
 
--- ---- substitution of erased terms by variables
-lift-id : small.lift Lean.var ≡ Lean.var
-lift-id = fun_ext go
-  where
-    go : (i : ℕ) → small.lift Lean.var i ≡ Lean.var i
-    go zero = refl
-    go (suc i) = refl
-
-lifts-id : (n : ℕ) → small.lifts n Lean.var ≡ Lean.var
-lifts-id zero = refl
-lifts-id (suc n) = ap (small.lifts n) lift-id ∙ lifts-id n
-
-mutual
-  pub small_sub-var : (t : Lean) → small.sub Lean.var t ≡ t
-  small_sub-var (Lean.var i) = refl
-  small_sub-var (Lean.node F ts) = ap (Lean.node F) (small_subs-var ts (lean.binders F))
-
-  small_subs-var : (ts : Leans) (ns : List ℕ) → small.subs ns Lean.var ts ≡ ts
-  small_subs-var ∅ ns = refl
-  small_subs-var (t ◂ ts) ns = ap₂ ◌◂◌ (ap (λ f. small.sub f t) (lifts-id (first ns)) ∙ small_sub-var t) (small_subs-var ts (rest ns))
-
-lift_ren-id : lift_ren (λ i. i) ≡ (λ i. i)
-lift_ren-id = fun_ext go
-  where
-    go : (i : ℕ) → lift_ren (λ j. j) i ≡ i
-    go zero = refl
-    go (suc i) = refl
-
-lifts_ren-id : (n : ℕ) → lifts_ren n (λ i. i) ≡ (λ i. i)
-lifts_ren-id zero = refl
-lifts_ren-id (suc n) = ap (lifts_ren n) lift_ren-id ∙ lifts_ren-id n
-
-mutual
-  small_ren-id : (t : Lean) → small.ren (λ i. i) t ≡ t
-  small_ren-id (Lean.var i) = refl
-  small_ren-id (Lean.node F ts) = ap (Lean.node F) (small_rens-id ts (lean.binders F))
-
-  small_rens-id : (ts : Leans) (ns : List ℕ) → small.rens ns (λ i. i) ts ≡ ts
-  small_rens-id ∅ ns = refl
-  small_rens-id (t ◂ ts) ns = ap₂ ◌◂◌ (ap (λ f. small.ren f t) (lifts_ren-id (first ns)) ∙ small_ren-id t) (small_rens-id ts (rest ns))
-
 -- ---- substitution
 -- σ gives, for what may be used of Γ, terms without erased uses in Δ, and τ their erasures
 pub record Carries (E : Env) (Γ Δ : Slots) (σ : ℕ → Term) (τ : ℕ → Lean) : Type 0 where
@@ -191,8 +152,8 @@ pub record Carries (E : Env) (Γ Δ : Slots) (σ : ℕ → Term) (τ : ℕ → L
 -- a substitution of places under a slot
 abbrev pub small_under : Slot → (ℕ → Lean) → ℕ → Lean
 small_under Slot.gone τ = τ
-small_under Slot.blank τ = small.lift τ
-small_under Slot.filled τ = small.lift τ
+small_under Slot.blank τ = small.lift lean.binders τ
+small_under Slot.filled τ = small.lift lean.binders τ
 
 abbrev past : Slot → ℕ → ℕ
 past s i = counted s i
@@ -208,44 +169,44 @@ module _ (E : Env) where
       full zero u = u
       full (suc i) u = clean-ren E (σ i) Δ (s ∷ Δ) suc (past s) (past-renames s Δ) (h.clean i u)
 
-      renamed : (s : Slot) (i : ℕ) → IsFilled (slot_at Γ i) → erase E (s ∷ Δ) (ren suc (σ i)) ≡ small.ren (past s) (erase E Δ (σ i))
+      renamed : (s : Slot) (i : ℕ) → IsFilled (slot_at Γ i) → erase E (s ∷ Δ) (ren suc (σ i)) ≡ small.ren lean.binders (past s) (erase E Δ (σ i))
       renamed s i u = erase-ren E (σ i) Δ (s ∷ Δ) suc (past s) (past-renames s Δ) (h.clean i u)
 
       at : (s : Slot) (i : ℕ) → IsFilled (slot_at (s ∷ Γ) i) → erase E (s ∷ Δ) (lift σ i) ≡ small_under s τ (place_at (s ∷ Γ) i)
       at Slot.gone zero u = absurd u
       at Slot.blank zero u = absurd u
       at Slot.filled zero u = refl
-      at Slot.gone (suc i) u = renamed Slot.gone i u ∙ small_ren-id (erase E Δ (σ i)) ∙ h.erased i u
-      at Slot.blank (suc i) u = renamed Slot.blank i u ∙ ap (small.ren suc) (h.erased i u)
-      at Slot.filled (suc i) u = renamed Slot.filled i u ∙ ap (small.ren suc) (h.erased i u)
+      at Slot.gone (suc i) u = renamed Slot.gone i u ∙ ren-id lean.binders (erase E Δ (σ i)) ∙ h.erased i u
+      at Slot.blank (suc i) u = renamed Slot.blank i u ∙ ap (small.ren lean.binders suc) (h.erased i u)
+      at Slot.filled (suc i) u = renamed Slot.filled i u ∙ ap (small.ren lean.binders suc) (h.erased i u)
 
   carries-extend : (ss : List Slot) (Γ Δ : Slots) (σ : ℕ → Term) (τ : ℕ → Lean) → Carries E Γ Δ σ τ →
-      Carries E (extend Γ ss) (extend Δ ss) (lifts (length ss) σ) (small.lifts (places ss) τ)
+      Carries E (extend Γ ss) (extend Δ ss) (lifts (length ss) σ) (small.lifts lean.binders (places ss) τ)
   carries-extend [] Γ Δ σ τ h = h
   carries-extend (Slot.gone ∷ ss) Γ Δ σ τ h = carries-extend ss _ _ _ _ (carries-lift Slot.gone Γ Δ σ τ h)
   carries-extend (Slot.blank ∷ ss) Γ Δ σ τ h = carries-extend ss _ _ _ _ (carries-lift Slot.blank Γ Δ σ τ h)
   carries-extend (Slot.filled ∷ ss) Γ Δ σ τ h = carries-extend ss _ _ _ _ (carries-lift Slot.filled Γ Δ σ τ h)
 
-  variable-filled : (s : Slot) (n : ℕ) → IsFilled s → variable s n ≡ Lean.var n
+  variable-filled : (s : Slot) (n : ℕ) → IsFilled s → variable s n ≡ Tree.var n
   variable-filled Slot.gone n u = absurd u
   variable-filled Slot.blank n u = absurd u
   variable-filled Slot.filled n u = refl
 
   mutual
     pub erase-sub : (t : Term) (Γ Δ : Slots) (σ : ℕ → Term) (τ : ℕ → Lean) → Carries E Γ Δ σ τ → NoErasedUse E Γ t →
-        erase E Δ (sub σ t) ≡ small.sub τ (erase E Γ t)
-    erase-sub (var i) Γ Δ σ τ h u = h.erased i u ∙ sym (ap (small.sub τ) (variable-filled (slot_at Γ i) (place_at Γ i) u))
-    erase-sub (node F ts) Γ Δ σ τ h u = ap (Lean.node (shape E F)) (erases-subs ts _ _ _ Γ Δ σ τ (fates-fit E F) h u.1)
+        erase E Δ (sub σ t) ≡ small.sub lean.binders τ (erase E Γ t)
+    erase-sub (var i) Γ Δ σ τ h u = h.erased i u ∙ sym (ap (small.sub lean.binders τ) (variable-filled (slot_at Γ i) (place_at Γ i) u))
+    erase-sub (node F ts) Γ Δ σ τ h u = ap (Tree.node (operator E F)) (erases-subs ts _ _ _ Γ Δ σ τ (fates-fit E F) h u.1)
 
     erases-subs : (ts : Terms) (ns : List ℕ) (fs : List Fate) (ks : List ℕ) (Γ Δ : Slots) (σ : ℕ → Term) (τ : ℕ → Lean) → Fitting ns fs ks →
-        Carries E Γ Δ σ τ → NoErasedUses E Γ fs ts → erases E Δ fs (subs ns σ ts) ≡ small.subs ks τ (erases E Γ fs ts)
+        Carries E Γ Δ σ τ → NoErasedUses E Γ fs ts → erases E Δ fs (subs ns σ ts) ≡ small.subs lean.binders ks τ (erases E Γ fs ts)
     erases-subs ε ns fs ks Γ Δ σ τ w h u = refl
     erases-subs (t ▸ ts) ns [] ks Γ Δ σ τ w h u = refl
     erases-subs (t ▸ ts) ns (None ∷ fs) ks Γ Δ σ τ w h u = erases-subs ts (rest ns) fs ks Γ Δ σ τ w h u
     erases-subs (t ▸ ts) ns (Some ss ∷ fs) ks Γ Δ σ τ w h u =
         ap₂ ◌◂◌
-        (subst (λ n. erase E (extend Δ ss) (sub (lifts n σ) t) ≡ small.sub (small.lifts (first ks) τ) (erase E (extend Γ ss) t)) w.0
-        (subst (λ k. erase E (extend Δ ss) (sub (lifts (length ss) σ) t) ≡ small.sub (small.lifts k τ) (erase E (extend Γ ss) t)) w.1
+        (subst (λ n. erase E (extend Δ ss) (sub (lifts n σ) t) ≡ small.sub lean.binders (small.lifts lean.binders (first ks) τ) (erase E (extend Γ ss) t)) w.0
+        (subst (λ k. erase E (extend Δ ss) (sub (lifts (length ss) σ) t) ≡ small.sub lean.binders (small.lifts lean.binders k τ) (erase E (extend Γ ss) t)) w.1
         (erase-sub t (extend Γ ss) (extend Δ ss) _ _ (carries-extend ss Γ Δ σ τ h) u.0)))
         (erases-subs ts (rest ns) fs (rest ks) Γ Δ σ τ w.2 h u.1)
 

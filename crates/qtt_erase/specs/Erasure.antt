@@ -7,8 +7,10 @@ use Rattle.qtt_usage.specs.Mult.{𝟘, 𝟙, ω}
 use Rattle.qtt_term.specs.Term.{Named, Form, Term, Terms, var, node, ε, ◌▸◌}
 use Rattle.qtt_term.specs.Signature.{Constructor, Env, family_at, definition_at, signature}
 use Rattle.qtt_term.specs.Value.{mults, field_mults}
-use Rattle.qtt_erase.specs.Lean.{Shape, Lean, Leans, ∅, ◌◂◌, Ty}
-use Rattle.qtt_erase.specs.LeanStep.{Bodies}
+use Rattle.qtt_erase.specs.Binding.{Tree, ∅, ◌◂◌}
+use Rattle.qtt_erase.specs.Operator.{Operator, Ty}
+use Rattle.qtt_erase.specs.Step.{Bodies}
+use Rattle.qtt_erase.specs.Lean.{Abstraction, Lean, Leans}
 
 -- ---- what a binder of a term is in its erasure: none, a binder that nothing mentions, or a binder.
 -- A field that is not at 0 is there also where its Case is at 0, and is then bound at 0
@@ -69,7 +71,7 @@ place_at (s ∷ Γ) (suc i) = counted s (place_at Γ i)
 abbrev pub variable : Slot → ℕ → Lean
 variable Slot.gone n = Ty
 variable Slot.blank n = Ty
-variable Slot.filled n = Lean.var n
+variable Slot.filled n = Tree.var n
 
 -- ---- what becomes of each component: it goes, or it stays under binders
 abbrev pub Fate : Type 0
@@ -106,16 +108,16 @@ fates E (Form.named (Named.prim p)) = arguments (mults (signature E (Named.prim 
 fates E (Form.named (Named.act a)) = arguments (mults (signature E (Named.act a)).arguments)
 fates E _ = []
 
--- ---- the shape that is left
-abbrev pub lam_shape : Mult → Shape
-lam_shape 𝟘 = Shape.thunk
-lam_shape 𝟙 = Shape.fun
-lam_shape ω = Shape.fun
+-- ---- the operator that is left
+abbrev pub lam_operator : Mult → Operator Abstraction
+lam_operator 𝟘 = Operator.function Abstraction.thunk
+lam_operator 𝟙 = Operator.function Abstraction.fun
+lam_operator ω = Operator.function Abstraction.fun
 
-abbrev pub app_shape : Mult → Shape
-app_shape 𝟘 = Shape.force
-app_shape 𝟙 = Shape.app
-app_shape ω = Shape.app
+abbrev pub app_operator : Mult → Operator Abstraction
+app_operator 𝟘 = Operator.force
+app_operator 𝟙 = Operator.app
+app_operator ω = Operator.app
 
 -- how many binders each branch keeps
 abbrev pub kept_binders : Mult → List Constructor → List ℕ → List ℕ
@@ -123,28 +125,28 @@ kept_binders q cs [] = []
 kept_binders q [] (n ∷ ns) = places (field_slots q [] n) ∷ kept_binders q [] ns
 kept_binders q (c ∷ cs) (n ∷ ns) = places (field_slots q (mults c.fields) n) ∷ kept_binders q cs ns
 
-abbrev pub shape : Env → Form → Shape
-shape E (Form.lam q) = lam_shape q
-shape E (Form.app q) = app_shape q
-shape E (Form.con f c k) = Shape.con c
-shape E (Form.case q f k m ns) = Shape.case (kept_binders q (family_at E f).constructors ns)
-shape E (Form.delete q) = Shape.case (0 ∷ [])
-shape E (Form.named (Named.def d)) = Shape.def d
-shape E (Form.named (Named.lit l)) = Shape.lit l
-shape E (Form.named (Named.prim_ty p)) = Shape.ty
-shape E (Form.named (Named.prim p)) = Shape.prim p
-shape E (Form.named (Named.act a)) = Shape.act a
-shape E Form.trap = Shape.trap
-shape E (Form.tape n) = Shape.tape n
-shape E (Form.sort l) = Shape.ty
-shape E (Form.pi q) = Shape.ty
-shape E (Form.fam f) = Shape.ty
+abbrev pub operator : Env → Form → Operator Abstraction
+operator E (Form.lam q) = lam_operator q
+operator E (Form.app q) = app_operator q
+operator E (Form.con f c k) = Operator.con c
+operator E (Form.case q f k m ns) = Operator.case (kept_binders q (family_at E f).constructors ns)
+operator E (Form.delete q) = Operator.case (0 ∷ [])
+operator E (Form.named (Named.def d)) = Operator.def d
+operator E (Form.named (Named.lit l)) = Operator.lit l
+operator E (Form.named (Named.prim_ty p)) = Operator.ty
+operator E (Form.named (Named.prim p)) = Operator.prim p
+operator E (Form.named (Named.act a)) = Operator.act a
+operator E Form.trap = Operator.trap
+operator E (Form.tape n) = Operator.tape n
+operator E (Form.sort l) = Operator.ty
+operator E (Form.pi q) = Operator.ty
+operator E (Form.fam f) = Operator.ty
 
 -- ---- the erasure of a term in a context
 abbrev mutual
   pub erase : Env → Slots → Term → Lean
   erase E Γ (var i) = variable (slot_at Γ i) (place_at Γ i)
-  erase E Γ (node F ts) = Lean.node (shape E F) (erases E Γ (fates E F) ts)
+  erase E Γ (node F ts) = Tree.node (operator E F) (erases E Γ (fates E F) ts)
 
   pub erases : Env → Slots → List Fate → Terms → Leans
   erases E Γ fs ε = ∅
@@ -160,5 +162,5 @@ erased_body E 𝟙 (Some b) = Some (erase E [] b)
 erased_body E ω None = None
 erased_body E ω (Some b) = Some (erase E [] b)
 
-abbrev pub erased_bodies : Env → Bodies
+abbrev pub erased_bodies : Env → Bodies Abstraction
 erased_bodies E d = erased_body E (definition_at E d).mult (definition_at E d).body

@@ -1,88 +1,44 @@
--- Erased terms: a variable, or a shape with its components. What carries no content at run time is gone: multiplicities, types,
--- parameters, and arguments and fields at 0. Variables are de Bruijn indices.
-use Rattle.std.specs.Prelude.{ℕ, suc, List, [], ◌∷◌, length}
-use Rattle.qtt_base.specs.declared.place.GlobalId.{GlobalId}
-use Rattle.qtt_prims.specs.declared.prim.Primitive.{Primitive}
-use Rattle.qtt_prims.specs.declared.lit.Lit.{Lit}
-use Rattle.qtt_term.specs.Term.{Action}
+-- Erased terms: what carries no content at run time is gone, which is multiplicities, types, parameters, and arguments and fields at 0.
+use Rattle.std.specs.Prelude.{ℕ, List, [], ◌∷◌, Option, Some, None}
+use Rattle.qtt_erase.specs.Binding.{Tree, ∅, ◌◂◌, inst}
+use Rattle.qtt_erase.specs.Operator.{Operator, binders_of, Code, Codes}
+use Rattle.qtt_erase.specs.Step.{Functions, Bodies, Outcome, next}
 
-pub data Shape : Type 0 where
-  -- a function with an argument, and one without, which keeps its body from being evaluated before it is forced
-  fun thunk : Shape
-  app force : Shape
-  def : GlobalId → Shape
-  -- its tag, which is the constructor's place in its family
-  con : ℕ → Shape
-  -- how many binders each branch stands under; the scrutinee stands behind the branches
-  case : List ℕ → Shape
-  lit : Lit → Shape
-  prim : Primitive → Shape
-  act : Action → Shape
-  trap : Shape
-  -- whatever was a type
-  ty : Shape
-  tape : ℕ → Shape
+-- a function with an argument, and one without, which keeps its body from being evaluated before it is forced
+pub data Abstraction : Type 0 where
+  fun thunk : Abstraction
 
--- how many binders each component stands under, 0 past the end
-abbrev pub binders : Shape → List ℕ
-binders Shape.fun = 1 ∷ []
-binders (Shape.case ns) = ns
-binders _ = []
+abbrev pub Lean : Type 0
+Lean = Code Abstraction
 
--- how many of the first components wait: a body, and the branches. The others are evaluated
-abbrev pub waiting : Shape → ℕ
-waiting Shape.fun = 1
-waiting Shape.thunk = 1
-waiting (Shape.case ns) = length ns
-waiting _ = 0
+abbrev pub Leans : Type 0
+Leans = Codes Abstraction
 
-infixr 50 ◌◂◌
-mutual
-  pub data Lean : Type 0 where
-    var : ℕ → Lean
-    node : Shape → Leans → Lean
-
-  pub data Leans : Type 0 where
-    ∅ : Leans
-    ◌◂◌ : Lean → Leans → Leans
-
-abbrev pub size : Leans → ℕ
-size ∅ = 0
-size (t ◂ ts) = suc (size ts)
-
--- the shapes, each with its components in order
 pattern abbrev pub Fun : Lean → Lean
-Fun b = Lean.node Shape.fun (b ◂ ∅)
+Fun b = Tree.node (Operator.function Abstraction.fun) (b ◂ ∅)
 
 pattern abbrev pub Thunk : Lean → Lean
-Thunk b = Lean.node Shape.thunk (b ◂ ∅)
+Thunk b = Tree.node (Operator.function Abstraction.thunk) (b ◂ ∅)
 
-pattern abbrev pub App : Lean → Lean → Lean
-App f a = Lean.node Shape.app (f ◂ a ◂ ∅)
+abbrev pub body_binders : Abstraction → List ℕ
+body_binders Abstraction.fun = 1 ∷ []
+body_binders Abstraction.thunk = 0 ∷ []
 
-pattern abbrev pub Force : Lean → Lean
-Force f = Lean.node Shape.force (f ◂ ∅)
+abbrev pub binders : Operator Abstraction → List ℕ
+binders = binders_of body_binders
 
-pattern abbrev pub Def : GlobalId → Lean
-Def d = Lean.node (Shape.def d) ∅
+abbrev pub call : Abstraction → Leans → Lean → Option Lean
+call Abstraction.fun (b ◂ ∅) a = Some (inst binders b a)
+call _ _ a = None
 
-pattern abbrev pub Con : ℕ → Leans → Lean
-Con c ts = Lean.node (Shape.con c) ts
+abbrev pub force : Abstraction → Leans → Option Lean
+force Abstraction.thunk (b ◂ ∅) = Some b
+force _ _ = None
 
-pattern abbrev pub Literal : Lit → Lean
-Literal l = Lean.node (Shape.lit l) ∅
+-- a body waits
+abbrev pub abstractions : Functions Abstraction
+abstractions = record { binders = body_binders; waiting = λ a. 1; called = call; forced = force }
 
-pattern abbrev pub Call : Primitive → Leans → Lean
-Call p ts = Lean.node (Shape.prim p) ts
-
-pattern abbrev pub Act : Action → Leans → Lean
-Act a ts = Lean.node (Shape.act a) ts
-
-pattern abbrev pub Trap : Lean
-Trap = Lean.node Shape.trap ∅
-
-pattern abbrev pub Ty : Lean
-Ty = Lean.node Shape.ty ∅
-
-pattern abbrev pub Tape : ℕ → Lean
-Tape n = Lean.node (Shape.tape n) ∅
+-- one step of an erased term, where definitions have these erased bodies
+abbrev pub lean_step : Bodies Abstraction → Lean → Outcome Lean
+lean_step = next abstractions

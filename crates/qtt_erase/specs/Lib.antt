@@ -1,6 +1,7 @@
+pub mod Binding
+pub mod Operator
+pub mod Step
 pub mod Lean
-pub mod LeanSubstitution
-pub mod LeanStep
 pub mod Erasure
 pub mod ErasedUse
 pub mod Laws
