@@ -9,15 +9,17 @@ use Rattle.qtt_term.specs.Substitution.{sub, closed}
 use Rattle.qtt_term.specs.FullStep.{Cause, Outcome, full_step}
 use Rattle.qtt_term.specs.FullRun.{closes_from, all_shut, at_end, start, Event, Config, Verdict, Turn, Run, at_open, resume, read, use_tape, perform, take_turn, turn, stopped, going, run_on, full}
 use Rattle.qtt_term.specs.Term.{Io, Action, Term, ε, ◌▸◌, Act, Tape, TextLit, Def}
-use Rattle.qtt_term.specs.Signature.{definition_at, definition_of, There, Env, UnitTy, IoTy}
+use Rattle.qtt_term.specs.Signature.{definition_at, definition_of, Env, UnitTy, IoTy}
 use Rattle.qtt_term.specs.Contraction.{chain, Conv}
 use Rattle.qtt_term.specs.Judgement.{Part, AtMost, Usable, Args, Rule}
 use Rattle.qtt_term.specs.Environment.{WellFormed, Complete, IsMain}
 use Rattle.qtt_term.specs.TapeDiscipline.{closing, after_event, open_after, AllClosed}
 use Rattle.qtt_term.proofs.Closed.{closed-kept}
 use Rattle.qtt_term.proofs.Options.{none≢some, some-injective, chain-some, cond-some}
+use Rattle.qtt_term.proofs.Output.{next-length}
 use Rattle.qtt_preserve.specs.Configuration.{open_use}
 use Rattle.qtt_preserve.specs.Within.{Has, HasAll}
+use Rattle.qtt_preserve.proofs.Plain.{there-some}
 use Rattle.qtt_preserve.proofs.Sound.{type-closed, sound_of, Bodied, bodied_of, Sound}
 use Rattle.qtt_preserve.proofs.Run.{as_use, Waiting, Fine, Kept, turn_kept}
 
@@ -119,10 +121,6 @@ closing-here : (bs cs : List Bool) → closing (length bs) (bs ++ true ∷ cs) �
 closing-here [] cs = refl
 closing-here (b ∷ bs) cs = rw (closing-here bs cs) refl
 
-next-length : (bs : List Bool) (b : Bool) → length (bs ++ b ∷ []) ≡ suc (length bs)
-next-length [] b = refl
-next-length (c ∷ bs) b = ap suc (next-length bs b)
-
 -- one number after those of bs, and then those of T
 one-more : (bs : List Bool) (b : Bool) (T : List Taped) →
     open_after ((bs ++ b ∷ []) ++ opens-of T) (closes_from (length (bs ++ b ∷ [])) T) ≡ Some ((bs ++ b ∷ []) ++ opens-of (all_shut T)) →
@@ -201,9 +199,6 @@ module _ {E : Env} (R : Term) where
       going-good n c (turn E c) (run_on more E (suc n)) (turn_kept sound R whole c f) (turn-disciplined E c d) f d (λ x g h. run-good sound whole more (suc n) x g h)
 
 -- ---- a main
-there-some : {A : Type 0} {o : Option A} {a : A} → o ≡ Some a → There o
-there-some e = rw e tt
-
 pub main_fine : {E : Env} → WellFormed E → (main : GlobalId) → IsMain E main → Fine E UnitTy (Def main) [] []
 main_fine {E} w main m = record {
   io = Io.io;

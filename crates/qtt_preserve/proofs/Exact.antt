@@ -1,10 +1,10 @@
 -- A term has a type with a use at most u exactly where it has it with some exact use that is at most u.
-use Rattle.std.proofs.Common.{◌≡◌, ℕ, zero, suc, Bool, true, false, cond, List, [], ◌∷◌, length, refl, sym, ◌∙◌, ap}
+use Rattle.std.proofs.Common.{◌≡◌, ℕ, suc, Bool, true, false, cond, List, [], ◌∷◌, length, refl, sym, ◌∙◌, ap}
 use Rattle.qtt_usage.specs.declared.mult.Mult.{Mult}
 use Rattle.qtt_usage.specs.Mult.{𝟘, 𝟙, ω, ◌⊕◌, ◌⊙◌, join, ◌≼◌}
 use Rattle.qtt_usage.specs.Uses.{Key, Use, unit, zero_use, out, outs}
-use Rattle.qtt_usage.proofs.Mults.{≼-refl, ≼-trans, ⊕-zero, ⊕-mono, ⊙-mono-right, join-mono}
-use Rattle.qtt_term.specs.Term.{Form, Term, Terms, node, Lam}
+use Rattle.qtt_usage.proofs.Mults.{≼-refl, ≼-trans, ⊕-mono, ⊙-mono-right, join-mono}
+use Rattle.qtt_term.specs.Term.{Form, Term, Terms}
 use Rattle.qtt_term.specs.Signature.{Tele, ConSig, FamSig, Env}
 use Rattle.qtt_term.specs.Contraction.{Conv}
 use Rattle.qtt_term.specs.Judgement.{KeyIn, Ctx, ext, Part, under, InRun, AtMost, Judged, BindersFit, share, sum_of, join_of, has_branch, total, Args, ParamsThenArgs, Branches, Cases, Rule, UseIs, Typed, TypedAll}
@@ -158,25 +158,3 @@ pub typed-as : {E : Env} {p : Part} {Γ : Ctx} {t A : Term} {w : Use} (u : Use) 
 typed-as {p = p} {Γ = Γ} {w = w} u (Typed.variable {i = i} s m e) h = Typed.variable s m (use-as p Γ (unit (Key.v i)) w u h e)
 typed-as {p = p} {Γ = Γ} {w = w} u (Typed.by_rule {js = js} {own = own} r hs e) h = Typed.by_rule r hs (use-as p Γ (total own js) w u h e)
 typed-as u (Typed.conversion d c) h = Typed.conversion (typed-as u d h) c
-
--- ---- a dead term has every use
-data Dead : Term → Type 0 where
-  trap : {ts : Terms} → Dead (node Form.trap ts)
-  lam : {q : Mult} {A b : Term} → Dead b → Dead (Lam q A b)
-
--- a use of a context, with one more binder
-abbrev with_binder : Mult → Use → Use
-with_binder q w (Key.v zero) = q
-with_binder q w (Key.v (suc i)) = w (Key.v i)
-with_binder q w (Key.h i) = w (Key.h i)
-
-out-binder : (q : Mult) (w : Use) (x : Key) → out (with_binder q w) x ≡ w x
-out-binder q w (Key.v i) = refl
-out-binder q w (Key.h i) = refl
-
-dead_any : {E : Env} {Γ : Ctx} {t A : Term} {u : Use} → Dead t → Has E Part.run Γ t A u → (w : Use) → Has E Part.run Γ t A w
-dead_any Dead.trap (Has.at_node (Rule.trap {u = z}) (HasAll.more e h f HasAll.none) c g) w =
-    Has.at_node (Rule.trap {any = w}) (HasAll.more e h f HasAll.none) c (λ x s. ≼-of (⊕-zero (w x)))
-dead_any (Dead.lam d) (Has.at_node (Rule.lam {q = q} {u = z}) (HasAll.more e hA fA (HasAll.more k hb fb HasAll.none)) c g) w =
-    Has.at_node Rule.lam (HasAll.more e hA fA (HasAll.more k (dead_any d hb (with_binder q w)) (≼-refl q, tt) HasAll.none)) c
-    (λ x s. ≼-of (⊕-zero _ ∙ ⊕-zero (out (with_binder q w) x) ∙ out-binder q w x))

@@ -10,7 +10,8 @@ use Rattle.qtt_term.specs.Judgement.{Ctx, Part}
 use Rattle.qtt_term.specs.Environment.{WellFormed, Complete, IsMain}
 use Rattle.qtt_term.proofs.Evaluation.{full-move}
 use Rattle.qtt_preserve.specs.Inversion.{Inversion}
-use Rattle.qtt_preserve.specs.Laws.{UsesAreExact, SubstitutionWithUses, StepKeepsTypeAndUse, StepsAreNeverStuck, RunKeepsTapes, NeverStuck, TapesClosedOnce, DerivationsGrow}
+use Rattle.qtt_preserve.specs.Laws.{UsesAreExact, SubstitutionWithUses, StepKeepsTypeAndUse, StepsAreNeverStuck, RunKeepsTapes, NeverStuck, TapesClosedOnce, DerivationsGrow, DeadTermsUseAnything}
+use Rattle.qtt_preserve.specs.Grows.{Grows}
 use Rattle.qtt_preserve.proofs.Exact.{typed-has, has-typed}
 use Rattle.qtt_preserve.proofs.Substitution.{substitution}
 use Rattle.qtt_preserve.proofs.Inverted.{inverted}
@@ -18,9 +19,10 @@ use Rattle.qtt_preserve.proofs.Sound.{sound_of, bodied_of}
 use Rattle.qtt_preserve.proofs.Preservation.{substitution_of_one, preservation}
 use Rattle.qtt_preserve.proofs.Progress.{Goes, progress}
 use Rattle.qtt_preserve.proofs.Run.{Kept, turn_kept}
-use Rattle.qtt_preserve.proofs.Exactly.{configured-fine, fine-configured}
+use Rattle.qtt_preserve.proofs.Configured.{configured-fine, fine-configured}
 use Rattle.qtt_preserve.proofs.Discipline.{opens-of, main_fine, full_good}
-use Rattle.qtt_preserve.proofs.Grow.{typed-grows}
+use Rattle.qtt_preserve.proofs.Grow.{typed-grows, judged-grows, family-formed-grows, definition-formed-grows}
+use Rattle.qtt_preserve.proofs.Dead.{dead-any}
 
 pub uses_are_exact_holds : (E : Env) (p : Part) (Γ : Ctx) (t A : Term) (u : Use) → UsesAreExact E p Γ t A u
 uses_are_exact_holds E p Γ t A u = record { exact = typed-has; bounded = has-typed }
@@ -60,5 +62,13 @@ tapes_closed_once_holds E w whole main m n input =
       trapped = λ k e. (opens-of (full n E main input).last.tapes, r.events, r.trapped (k, e));
     }
 
-pub derivations_grow_holds : DerivationsGrow
-derivations_grow_holds D E g p Γ t A u k h = typed-grows g h k
+pub derivations_grow_holds : (D E : Env) → Grows D E → DerivationsGrow D E
+derivations_grow_holds D E g = record {
+  derivations = λ p Γ t A u k h. typed-grows g h k;
+  all_derivations = λ same p Γ t A u h. judged-grows g same h;
+  families = λ same f F h. family-formed-grows g same h;
+  definitions = λ same d h. definition-formed-grows g same h;
+}
+
+pub dead_terms_use_anything_holds : (E : Env) → DeadTermsUseAnything E
+dead_terms_use_anything_holds E Γ t A u w e h = dead-any e h w

@@ -4,7 +4,7 @@ use mathlib.Core.Path.{ap₂, subst₂, subst₃}
 use Rattle.qtt_base.specs.declared.place.GlobalId.{GlobalId}
 use Rattle.qtt_usage.specs.Uses.{Use, zero_use}
 use Rattle.qtt_prims.specs.declared.lit.Lit.TheVariants as literal
-use Rattle.qtt_term.specs.Term.{PrimTy, Named, Form, Term, Terms, var, node, ε, ◌▸◌, Sort}
+use Rattle.qtt_term.specs.Term.{PrimTy, Named, Form, Term, Terms, Sort}
 use Rattle.qtt_term.specs.Substitution.{sub, push, closed}
 use Rattle.qtt_term.specs.Signature.{Constructor, Family, Definition, Env, family_of, definition_of, family_at, definition_at, There, NamedThere, ConSig, con_sigs, index_binders, fam_sig, fam_at, signature}
 use Rattle.qtt_term.specs.Contraction.{Step, Steps, Conv}
@@ -12,7 +12,7 @@ use Rattle.qtt_term.specs.Judgement.{IsCon, Part, Ctx, Usable, erase_binds, Judg
 use Rattle.qtt_term.specs.Environment.{Types, TypesBeside, TypesUpTo, ConstructorsFormed, FamilyFormed, DefinitionFormed}
 use Rattle.qtt_term.proofs.Options.{none≢some}
 use Rattle.qtt_confluence.proofs.Root.{Root, view, contracts}
-use Rattle.qtt_preserve.specs.Grows.{FamilyGrows, DefinitionGrows, Grows, CaseIn, CasesIn, AllCasesIn}
+use Rattle.qtt_preserve.specs.Grows.{FamiliesStay, FamilyGrows, DefinitionGrows, Grows, CaseIn, CasesIn, AllCasesIn}
 
 -- ---- what is there
 family-grew : (o r : Option Family) → ((F : Family) → o ≡ Some F → (G : Family) × (r ≡ Some G) × FamilyGrows F G) → There o →
@@ -131,24 +131,37 @@ module _ {D E : Env} (g : Grows D E) where
     all-grow TypedAll.none k = TypedAll.none
     all-grow (TypedAll.more e h f hs) k = TypedAll.more e (typed-grows h k.0) f (all-grow hs k.1)
 
--- ---- where families are the same in both, all cases are
-case-in : {P : GlobalId → Type 0} → ((f : GlobalId) → P f) → (F : Form) → CaseIn P F
-case-in h (Form.case q f k m ns) = h f
-case-in h _ = tt
+-- ---- the Cases of a typed term are of families that are there
+case-there : {E : Env} {p : Part} {F : Form} {ts : Terms} {js : List Judged} {R : Term} {own : Use} (P : GlobalId → Type 0) → ((f : GlobalId) → There (E.family f) → P f) →
+    Rule E p F ts js R own → CaseIn P F
+case-there P h (Rule.case {f = f} w m a) = h f w
+case-there P h Rule.sort = tt
+case-there P h Rule.pi = tt
+case-there P h Rule.lam = tt
+case-there P h Rule.app = tt
+case-there P h (Rule.fam w a) = tt
+case-there P h (Rule.con i a) = tt
+case-there P h (Rule.delete m) = tt
+case-there P h (Rule.named w m a) = tt
+case-there P h Rule.trap = tt
+case-there P h Rule.tape = tt
 
 mutual
-  cases-in : {P : GlobalId → Type 0} → ((f : GlobalId) → P f) → (t : Term) → CasesIn P t
-  cases-in h (var i) = tt
-  cases-in h (node F ts) = (case-in h F, all-cases-in h ts)
+  cases-there : {E : Env} {p : Part} {Γ : Ctx} {t A : Term} {u : Use} (P : GlobalId → Type 0) → ((f : GlobalId) → There (E.family f) → P f) →
+      Typed E p Γ t A u → CasesIn P t
+  cases-there P h (Typed.variable s m e) = tt
+  cases-there P h (Typed.by_rule r hs e) = (case-there P h r, all-cases-there P h hs)
+  cases-there P h (Typed.conversion d c) = cases-there P h d
 
-  all-cases-in : {P : GlobalId → Type 0} → ((f : GlobalId) → P f) → (ts : Terms) → AllCasesIn P ts
-  all-cases-in h ε = tt
-  all-cases-in h (t ▸ ts) = (cases-in h t, all-cases-in h ts)
+  all-cases-there : {E : Env} {p : Part} {Γ : Ctx} {ns : List ℕ} {ts : Terms} {js : List Judged} (P : GlobalId → Type 0) → ((f : GlobalId) → There (E.family f) → P f) →
+      TypedAll E p Γ ns ts js → AllCasesIn P ts
+  all-cases-there P h TypedAll.none = tt
+  all-cases-there P h (TypedAll.more e d f hs) = (cases-there P h d, all-cases-there P h hs)
 
--- ---- well-formed families and definitions, where only definitions are added
-module _ {D E : Env} (g : Grows D E) (same : (f : GlobalId) → D.family f ≡ E.family f) where
+-- ---- where the families that are there are the same, everything typed and formed stays so
+module _ {D E : Env} (g : Grows D E) (same : FamiliesStay D E) where
   pub judged-grows : {p : Part} {Γ : Ctx} {t A : Term} {u : Use} → Typed D p Γ t A u → Typed E p Γ t A u
-  judged-grows {t = t} h = typed-grows g h (cases-in same t)
+  judged-grows h = typed-grows g h (cases-there (λ f. D.family f ≡ E.family f) same h)
 
   type-grows : {Γ : Ctx} {A : Term} → IsType D Γ A → IsType E Γ A
   type-grows h = (h.0, judged-grows h.1)

@@ -1,6 +1,7 @@
 pub mod Uses
 pub mod Travel
 pub mod Substitution
+pub mod Plain
 pub mod Exact
 pub mod Sound
 pub mod Iota
@@ -9,8 +10,9 @@ pub mod Progress
 pub mod Run
 pub mod Discipline
 pub mod Inverted
-pub mod Exactly
+pub mod Configured
 pub mod Grow
 pub mod Facts
 pub mod Counted
 pub mod Worked
+pub mod Dead

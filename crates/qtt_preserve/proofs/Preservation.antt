@@ -19,7 +19,7 @@ use Rattle.qtt_term.specs.Term.{Named, Form, binders, rest, Term, Terms, var, no
 use Rattle.qtt_term.specs.Substitution.{sub, cons, push, inst, closed}
 use Rattle.qtt_term.specs.Environment.{HasPrim}
 use Rattle.qtt_term.specs.Value.{kept, demanded}
-use Rattle.qtt_term.specs.Judgement.{IsCon, Ctx, mult_at, type_at, Part, under, InRun, AtMost, Usable, Judged, judged, share, sum_of, join_of, has_branch, total, Args, ParamsThenArgs, Branches, Cases, Rule}
+use Rattle.qtt_term.specs.Judgement.{IsCon, Ctx, mult_at, type_at, Part, under, InRun, AtMost, Judged, judged, share, sum_of, join_of, has_branch, total, Args, ParamsThenArgs, Branches, Cases, Rule}
 use Rattle.qtt_term.proofs.Closed.{closed-kept}
 use Rattle.qtt_term.proofs.Evaluation.{Move, Moves}
 use Rattle.qtt_term.proofs.Subst.{sub-id, cons-ren}
@@ -31,6 +31,7 @@ use Rattle.qtt_confluence.proofs.Confluence.{convs-same, conv-inside, conv-sub, 
 use Rattle.qtt_confluence.proofs.Families.{family_injective}
 use Rattle.qtt_preserve.specs.Within.{Has, HasAll}
 use Rattle.qtt_preserve.specs.Through.{through}
+use Rattle.qtt_preserve.proofs.Plain.{no-use, literal_has}
 use Rattle.qtt_preserve.proofs.Travel.{in_run₂, raise, in_run, in_run₃, has_as, usable-under, always}
 use Rattle.qtt_preserve.proofs.Sound.{BodiesTyped, Sound}
 use Rattle.qtt_preserve.proofs.Uses.{≼-of, one_row, through-one, through-zero}
@@ -215,13 +216,6 @@ rule-con {E} {p} {f} {n} {F} {c} {ts} {js} {R} e i a =
     subst (λ F. IsCon (fam_sig f F).constructors n c → ParamsThenArgs c.fields F.params closed ts js c.result R → Rule E p (Form.con f n (length F.params)) ts js R zero_use)
     e (λ i a. Rule.con i a) i a
 
-no-use : (p : Part) (Γ : Ctx) → InRun p (AtMost Γ (total zero_use []) zero_use)
-no-use p Γ = always p (λ x s. tt)
-
-usable-many : (p : Part) → Usable p ω
-usable-many Part.run = tt
-usable-many Part.erased = tt
-
 truth-has : {E : Env} (p : Part) (Γ : Ctx) → HasPrim E → (b : Bool) → Has E p Γ (truth b) BoolTy zero_use
 truth-has p Γ h false = Has.at_node (rule-con (ap family_of h.truths) IsCon.here (ParamsThenArgs.done Args.none)) HasAll.none Conv.same (no-use p Γ)
 truth-has p Γ h true = Has.at_node (rule-con (ap family_of h.truths) (IsCon.there IsCon.here) (ParamsThenArgs.done Args.none)) HasAll.none Conv.same (no-use p Γ)
@@ -247,10 +241,10 @@ module _ {E : Env} (q : Part) (Γ : Ctx) (prims : HasPrim E) where
   no_answer A t e = absurd (none≢some e)
 
   number_has : (z : ℤ) → Answered E q Γ IntTy (answer.Value (literal.Int z))
-  number_has z t e = subst (λ t. Has E q Γ t IntTy zero_use) (some-injective e) (Has.at_node (Rule.named tt (usable-many q) Args.none) HasAll.none Conv.same (no-use q Γ))
+  number_has z t e = subst (λ t. Has E q Γ t IntTy zero_use) (some-injective e) (literal_has q Γ (literal.Int z))
 
   text_has : (s : List ℕ) → Answered E q Γ StringTy (answer.Value (literal.Text s))
-  text_has s t e = subst (λ t. Has E q Γ t StringTy zero_use) (some-injective e) (Has.at_node (Rule.named tt (usable-many q) Args.none) HasAll.none Conv.same (no-use q Γ))
+  text_has s t e = subst (λ t. Has E q Γ t StringTy zero_use) (some-injective e) (literal_has q Γ (literal.Text s))
 
   answer_has : (b : Bool) → Answered E q Γ BoolTy (answer.Truth b)
   answer_has b t e = subst (λ t. Has E q Γ t BoolTy zero_use) (some-injective e) (truth-has q Γ prims b)

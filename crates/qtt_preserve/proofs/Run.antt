@@ -25,6 +25,7 @@ use Rattle.qtt_confluence.proofs.Confluence.{conv-inside}
 use Rattle.qtt_confluence.proofs.Injective.{io_injective, stiff-prim_ty}
 use Rattle.qtt_preserve.specs.Configuration.{open_use}
 use Rattle.qtt_preserve.specs.Within.{Has, HasAll}
+use Rattle.qtt_preserve.proofs.Plain.{there-some, literal_has, handle_has}
 use Rattle.qtt_preserve.proofs.Sound.{Sound, Bodied}
 use Rattle.qtt_preserve.proofs.Uses.{≼-of}
 use Rattle.qtt_preserve.proofs.Travel.{always, has_as}
@@ -208,9 +209,6 @@ Kept E R c (Turn.halts (Verdict.trapped k)) = Unit {0}
 Kept E R c (Turn.halts Verdict.stuck) = ⊥
 Kept E R c (Turn.halts Verdict.running) = ⊥
 
-there-some : {A : Type 0} {o : Option A} {a : A} → o ≡ Some a → There o
-there-some e = rw e tt
-
 module _ {E : Env} (sound : Sound E) (R : Term) where
   waiting-conv : {m : Io} {A B : Term} {ks : List Term} {w : Use} → Waiting E R m A ks w → Conv E A B → Waiting E R m B ks w
   waiting-conv (Waiting.none r) c = Waiting.none (Conv.thence (Conv.back c) r)
@@ -242,9 +240,6 @@ module _ {E : Env} (sound : Sound E) (R : Term) where
   line_has : Has E Part.erased [] LineTy (Sort 0) zero_use
   line_has = Has.at_node (rule-fam (there-some sound.prims.lines) (ap family_of sound.prims.lines) (ParamsThenArgs.done Args.none)) HasAll.none Conv.same tt
 
-  handle_has : Has E Part.erased [] HandleTy (Sort 0) zero_use
-  handle_has = Has.at_node (Rule.named tt tt Args.none) HasAll.none Conv.same tt
-
   mk_unit_has : Has E Part.run [] MkUnit UnitTy zero_use
   mk_unit_has = Has.at_node (rule-con (ap family_of sound.prims.units) IsCon.here (ParamsThenArgs.done Args.none)) HasAll.none Conv.same (λ x s. tt)
 
@@ -254,7 +249,7 @@ module _ {E : Env} (sound : Sound E) (R : Term) where
   got_has : (s : List ℕ) → Has E Part.run [] (Got (TextLit s)) LineTy zero_use
   got_has s =
       Has.at_node (rule-con (ap family_of sound.prims.lines) (IsCon.there IsCon.here) (ParamsThenArgs.done (Args.more {u = zero_use} Args.none)))
-      (HasAll.more refl (Has.at_node (Rule.named tt tt Args.none) HasAll.none Conv.same (λ x s. tt)) tt HasAll.none) Conv.same (λ x s. tt)
+      (HasAll.more refl (literal_has Part.run [] (literal.Text s)) tt HasAll.none) Conv.same (λ x s. tt)
 
   tape_has : (n : ℕ) → Has E Part.run [] (Tape n) HandleTy (unit (Key.h n))
   tape_has n = Has.at_node Rule.tape HasAll.none Conv.same (λ x s. ≼-of (⊕-zero (unit (Key.h n) x)))
@@ -275,7 +270,7 @@ module _ {E : Env} (sound : Sound E) (R : Term) where
   handled : {h : ℕ} {C : Term} {o : Io} {ks : List Term} {z w : Use} {T : List Taped} → Has E Part.run [] (Tape h) HandleTy z →
       Conv E (IoTy Io.io1 HandleTy) (IoTy o C) → Waiting E R o C ks w → ((k : ℕ) → z (Key.h k) ⊕ w (Key.h k) ≼ open_use T k) → Fine E R (pure_handle h) ks T
   handled {ks = ks} {z = z} {w = w} {T = T} ht c ws f =
-      record { io = Io.io1; type = HandleTy; use_of_term = λ x. z x; use_of_waiting = w; has = pure_term Io.io1 handle_has ht; waits = waits-for c ws; counted = count }
+      record { io = Io.io1; type = HandleTy; use_of_term = λ x. z x; use_of_waiting = w; has = pure_term Io.io1 (handle_has []) ht; waits = waits-for c ws; counted = count }
     where
       count : AtMost [] (λ x. z x ⊕ w x) (as_use T)
       count (Key.v i) s = absurd s

@@ -1,13 +1,15 @@
 -- The example programs are well formed and complete.
 use Rattle.std.specs.Prelude.{codes}
-use Rattle.std.proofs.Common.{◌≡◌, ℕ, Bool, true, false, cond, eqb, List, [], ◌∷◌, ◌++◌, Some, None, pos, refl, sym, ◌∙◌, ap, subst}
+use Rattle.std.proofs.Common.{◌≡◌, ℕ, Bool, true, false, cond, eqb, [], ◌∷◌, Some, None, pos, refl, sym, ◌∙◌, ap, subst}
+use Rattle.std.proofs.lemmas.List.{append-nil}
 use Rattle.qtt_base.specs.declared.place.GlobalId.{GlobalId}
 use Rattle.qtt_usage.specs.Mult.{𝟘, 𝟙, ◌⊕◌, ◌≼◌}
 use Rattle.qtt_usage.specs.Uses.{Key, Use, unit, zero_use, out}
 use Rattle.qtt_usage.proofs.Mults.{≼-refl, ≼-zero, ⊕-zero}
-use Rattle.qtt_term.specs.Term.{Io, Form, Term, Terms, var, node, ε, ◌▸◌, Sort, Pi, Lam, IntLit, TextLit}
+use Rattle.qtt_prims.specs.declared.lit.Lit.TheVariants as literal
+use Rattle.qtt_term.specs.Term.{Io, Form, Term, Terms, var, node, ε, ◌▸◌, Sort, Pi, Lam, TextLit}
 use Rattle.qtt_term.specs.Substitution.{Closed}
-use Rattle.qtt_term.specs.Signature.{Definition, Env, There, UnitTy, IntTy, StringTy, HandleTy, IoTy}
+use Rattle.qtt_term.specs.Signature.{Definition, Env, There, UnitTy, StringTy, HandleTy, IoTy}
 use Rattle.qtt_term.specs.Contraction.{Conv}
 use Rattle.qtt_term.specs.Judgement.{Ctx, Part, AtMost, Args, ParamsThenArgs, Rule, Typed, TypedAll}
 use Rattle.qtt_term.specs.Environment.{IsTape, NoTape, NoTapes, DefinitionFormed}
@@ -18,6 +20,7 @@ use Rattle.qtt_term.proofs.PrimFormed.{prim_formed}
 use Rattle.qtt_preserve.specs.Within.{Has, HasAll}
 use Rattle.qtt_preserve.specs.Grows.{Grows}
 use Rattle.qtt_preserve.specs.Examples.{IsProgram}
+use Rattle.qtt_preserve.proofs.Plain.{literal_has, handle_has}
 use Rattle.qtt_preserve.proofs.Uses.{≼-of}
 use Rattle.qtt_preserve.proofs.Travel.{has_as}
 use Rattle.qtt_preserve.proofs.Exact.{typed-has, typed-as, has-typed}
@@ -70,14 +73,10 @@ cond-same false a = refl
 same-family : (b : Term) (f : GlobalId) → prim_env.family f ≡ (one b).family f
 same-family b f = sym (ap (λ o. or o (prim_family f)) (cond-same (eqb f.module.0 1) None))
 
-nothing-behind : {A : Type 0} (xs : List A) → xs ++ [] ≡ xs
-nothing-behind [] = refl
-nothing-behind (x ∷ xs) = ap (λ ys. x ∷ ys) (nothing-behind xs)
-
 grows : (b : Term) → Grows prim_env (one b)
 grows b = record {
   families = λ f F e.
-      (F, sym (same-family b f) ∙ e, record { params = refl; indices = refl; level = refl; added = []; constructors = nothing-behind F.constructors });
+      (F, sym (same-family b f) ∙ e, record { params = refl; indices = refl; level = refl; added = []; constructors = append-nil F.constructors });
   definitions = λ d A e. absurd (none≢some e);
 }
 
@@ -106,7 +105,7 @@ is_program b h f =
     record {
       formed = record {
         prims = record { units = refl; truths = refl; lines = refl; equalities = refl };
-        families = λ g F e. family-formed-grows (grows b) (same-family b) (prim_formed.families g F (same-family b g ∙ e));
+        families = λ g F e. family-formed-grows (grows b) (λ f t. same-family b f) (prim_formed.families g F (same-family b g ∙ e));
         definitions = λ g D e. subst (DefinitionFormed (one b)) (one-definition b g D e) d;
       };
       complete = λ g D e m. subst (λ D. There D.body) (one-definition b g D e) tt;
@@ -127,15 +126,6 @@ abbrev write_of_quotient : Term
 write_of_quotient = with_handle opened_a (with_handle (written (var 0) (shown one_by_zero)) (closed_after (var 0)))
 
 module _ (E : Env) (units : (Γ : Ctx) → Has E Part.erased Γ UnitTy (Sort 0) zero_use) where
-  handle_has : (Γ : Ctx) → Has E Part.erased Γ HandleTy (Sort 0) zero_use
-  handle_has Γ = Has.at_node (Rule.named tt tt Args.none) HasAll.none Conv.same tt
-
-  text_has : (Γ : Ctx) (s : List ℕ) → Has E Part.run Γ (TextLit s) StringTy zero_use
-  text_has Γ s = Has.at_node (Rule.named tt tt Args.none) HasAll.none Conv.same (λ x s. tt)
-
-  number_has : (Γ : Ctx) (n : ℕ) → Has E Part.run Γ (IntLit (pos n)) IntTy zero_use
-  number_has Γ n = Has.at_node (Rule.named tt tt Args.none) HasAll.none Conv.same (λ x s. tt)
-
   handle_var : (Γ : Ctx) → Has E Part.run ((𝟙, HandleTy) ∷ Γ) (var 0) HandleTy (unit (Key.v 0))
   handle_var Γ = Has.at_var tt tt Conv.same (λ x s. ≼-refl (unit (Key.v 0) x))
 
@@ -153,7 +143,7 @@ module _ (E : Env) (units : (Γ : Ctx) → Has E Part.erased Γ UnitTy (Sort 0) 
 
   opens_has : Has E Part.run [] opened_a (IoTy Io.io1 HandleTy) zero_use
   opens_has =
-      Has.at_node (Rule.named tt tt (Args.more {u = zero_use} Args.none)) (HasAll.more refl (text_has [] (codes "a")) tt HasAll.none) Conv.same (λ x s. tt)
+      Has.at_node (Rule.named tt tt (Args.more {u = zero_use} Args.none)) (HasAll.more refl (literal_has Part.run [] (literal.Text (codes "a"))) tt HasAll.none) Conv.same (λ x s. tt)
 
   writes_has : (Γ : Ctx) (s : Term) → Has E Part.run ((𝟙, HandleTy) ∷ Γ) s StringTy zero_use → Has E Part.run ((𝟙, HandleTy) ∷ Γ) (written (var 0) s) (IoTy Io.io1 HandleTy) (unit (Key.v 0))
   writes_has Γ s h =
@@ -170,15 +160,15 @@ module _ (E : Env) (units : (Γ : Ctx) → Has E Part.erased Γ UnitTy (Sort 0) 
       Has.at_node (Rule.named tt tt (Args.more {u = zero_use} Args.none))
       (HasAll.more refl
       (Has.at_node (Rule.named tt tt (Args.more {u = zero_use} (Args.more {u = zero_use} Args.none)))
-      (HasAll.more refl (number_has Γ 1) tt (HasAll.more refl (number_has Γ 0) tt HasAll.none)) Conv.same (λ x s. tt)) tt HasAll.none)
+      (HasAll.more refl (literal_has Part.run Γ (literal.Int (pos 1))) tt (HasAll.more refl (literal_has Part.run Γ (literal.Int (pos 0))) tt HasAll.none)) Conv.same (λ x s. tt)) tt HasAll.none)
       Conv.same (λ x s. tt)
 
   two_writes_has : Has E Part.run [] two_writes io_unit zero_use
   two_writes_has =
       has_as E io_unit zero_use
       (bind_has [] opened_a _ zero_use _ opens_has
-      (bind_has ((𝟙, HandleTy) ∷ []) _ _ (unit (Key.v 0)) _ (writes_has [] _ (text_has _ (codes "x")))
-      (bind_has ((𝟙, HandleTy) ∷ (𝟙, HandleTy) ∷ []) _ _ (unit (Key.v 0)) (unit (Key.v 0)) (writes_has ((𝟙, HandleTy) ∷ []) _ (text_has _ (codes "y")))
+      (bind_has ((𝟙, HandleTy) ∷ []) _ _ (unit (Key.v 0)) _ (writes_has [] _ (literal_has Part.run _ (literal.Text (codes "x"))))
+      (bind_has ((𝟙, HandleTy) ∷ (𝟙, HandleTy) ∷ []) _ _ (unit (Key.v 0)) (unit (Key.v 0)) (writes_has ((𝟙, HandleTy) ∷ []) _ (literal_has Part.run _ (literal.Text (codes "y"))))
       (closes_has ((𝟙, HandleTy) ∷ (𝟙, HandleTy) ∷ [])) tt) tt) tt)
       Conv.same (no_tape_used _ (λ k. tt))
 

@@ -2,7 +2,7 @@
 use Rattle.std.specs.Prelude.{◌≡◌, List, ◌++◌, Some}
 use Rattle.qtt_base.specs.declared.place.GlobalId.{GlobalId}
 use Rattle.qtt_term.specs.Term.{Form, Term, Terms, var, node, ε, ◌▸◌}
-use Rattle.qtt_term.specs.Signature.{Constructor, Family, Definition, Env}
+use Rattle.qtt_term.specs.Signature.{Constructor, Family, Definition, Env, There}
 
 pub record FamilyGrows (F G : Family) : Type 0 where
   pub params : F.params ≡ G.params
@@ -19,6 +19,10 @@ pub record DefinitionGrows (A B : Definition) : Type 0 where
 pub record Grows (D E : Env) : Type 0 where
   pub families : (f : GlobalId) (F : Family) → D.family f ≡ Some F → (G : Family) × (E.family f ≡ Some G) × FamilyGrows F G
   pub definitions : (d : GlobalId) (A : Definition) → D.definition d ≡ Some A → (B : Definition) × (E.definition d ≡ Some B) × DefinitionGrows A B
+
+-- no constructors are added
+abbrev pub FamiliesStay : Env → Env → Type 0
+FamiliesStay D E = (f : GlobalId) → There (D.family f) → D.family f ≡ E.family f
 
 abbrev pub CaseIn : (GlobalId → Type 0) → Form → Type 0
 CaseIn P (Form.case q f k m ns) = P f

@@ -1,21 +1,22 @@
 -- The laws that the functions of this crate ensure.
-use Rattle.std.specs.Prelude.{◌≡◌, ◌≢◌, ℕ, List, [], ◌∷◌}
+use Rattle.std.specs.Prelude.{◌≡◌, ◌≢◌, ℕ, true, List, [], ◌∷◌}
 use Rattle.qtt_base.specs.declared.place.GlobalId.{GlobalId}
 use Rattle.qtt_usage.specs.declared.mult.Mult.{Mult}
 use Rattle.qtt_usage.specs.Mult.{𝟘, ◌⊕◌, ◌⊙◌}
 use Rattle.qtt_usage.specs.Uses.{Key, Use, out}
 use Rattle.qtt_term.specs.Term.{Term}
 use Rattle.qtt_term.specs.Substitution.{sub, inst}
-use Rattle.qtt_term.specs.Signature.{Env, UnitTy}
+use Rattle.qtt_term.specs.Signature.{Family, Definition, Env, UnitTy}
 use Rattle.qtt_term.specs.FullStep.{Cause, Outcome, full_step}
 use Rattle.qtt_term.specs.FullRun.{Config, Verdict, Turn, turn, start, full}
 use Rattle.qtt_term.specs.TapeDiscipline.{Disciplined, ClosedOnce}
 use Rattle.qtt_term.specs.Judgement.{Ctx, InScope, mult_at, type_at, Part, under, InRun, AtMost, Typed}
-use Rattle.qtt_term.specs.Environment.{IsMain}
+use Rattle.qtt_term.specs.Environment.{IsMain, FamilyFormed, DefinitionFormed}
+use Rattle.qtt_term.specs.Infer.{is_dead}
 use Rattle.qtt_preserve.specs.Within.{Has}
 use Rattle.qtt_preserve.specs.Through.{through}
 use Rattle.qtt_preserve.specs.Configuration.{open_use, Configured}
-use Rattle.qtt_preserve.specs.Grows.{Grows, CasesIn}
+use Rattle.qtt_preserve.specs.Grows.{FamiliesStay, CasesIn}
 
 -- a term with this type and at most this use
 abbrev pub TypedWithin : Env → Part → Ctx → Term → Term → Use → Type 0
@@ -64,7 +65,14 @@ pub record TapesClosedOnce (E : Env) (main : GlobalId) (n : ℕ) (input : List �
   pub ended : (full n E main input).verdict ≡ Verdict.ended → ClosedOnce (full n E main input).last.events
   pub trapped : (k : Cause) → (full n E main input).verdict ≡ Verdict.trapped k → ClosedOnce (full n E main input).last.events
 
--- a derivation stands in every larger environment in which the families of its Cases are the same
-abbrev pub DerivationsGrow : Type 0
-DerivationsGrow =
-    (D E : Env) → Grows D E → (p : Part) (Γ : Ctx) (t A : Term) (u : Use) → CasesIn (λ f. D.family f ≡ E.family f) t → Typed D p Γ t A u → Typed E p Γ t A u
+-- a derivation stands in every larger environment where the families of its Cases are the same; so where no constructors are added,
+-- every derivation does, and families and definitions stay well formed
+pub record DerivationsGrow (D E : Env) : Type 0 where
+  pub derivations : (p : Part) (Γ : Ctx) (t A : Term) (u : Use) → CasesIn (λ f. D.family f ≡ E.family f) t → Typed D p Γ t A u → Typed E p Γ t A u
+  pub all_derivations : FamiliesStay D E → (p : Part) (Γ : Ctx) (t A : Term) (u : Use) → Typed D p Γ t A u → Typed E p Γ t A u
+  pub families : FamiliesStay D E → (f : GlobalId) (F : Family) → FamilyFormed D f F → FamilyFormed E f F
+  pub definitions : FamiliesStay D E → (d : Definition) → DefinitionFormed D d → DefinitionFormed E d
+
+-- a Trap, and a function whose body is dead, may use anything in the run part
+abbrev pub DeadTermsUseAnything : Env → Type 0
+DeadTermsUseAnything E = (Γ : Ctx) (t A : Term) (u w : Use) → is_dead t ≡ true → Typed E Part.run Γ t A u → Typed E Part.run Γ t A w

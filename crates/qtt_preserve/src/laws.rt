@@ -11,7 +11,8 @@ ghost use Rattle.qtt_term.specs.Environment.{WellFormed, Complete, IsMain};
 ghost use Rattle.qtt_term.specs.Programs.{handles, trapping};
 ghost use Rattle.qtt_preserve.specs.Inversion.{Inversion};
 ghost use Rattle.qtt_preserve.specs.Examples.{HandlesAreLinear, IsProgram};
-ghost use Rattle.qtt_preserve.specs.Laws.{UsesAreExact, SubstitutionWithUses, StepKeepsTypeAndUse, StepsAreNeverStuck, RunKeepsTapes, NeverStuck, TapesClosedOnce, DerivationsGrow};
+ghost use Rattle.qtt_preserve.specs.Laws.{UsesAreExact, SubstitutionWithUses, StepKeepsTypeAndUse, StepsAreNeverStuck, RunKeepsTapes, NeverStuck, TapesClosedOnce, DerivationsGrow, DeadTermsUseAnything};
+ghost use Rattle.qtt_preserve.specs.Grows.{Grows};
 
 /// A term has a type with at most a use exactly where it has it with an exact use within that one.
 pub fn uses_are_exact()
@@ -53,9 +54,14 @@ pub fn tapes_closed_once()
     ensures { (E : Env) → WellFormed E → Complete E → (main : GlobalId) → IsMain E main → (n : ℕ) (input : List ℕ) → TapesClosedOnce E main n input }
 {}
 
-/// Adding to an environment keeps the derivations.
+/// Adding to an environment keeps derivations, and what is well formed.
 pub fn derivations_grow()
-    ensures { DerivationsGrow }
+    ensures { (D E : Env) → Grows D E → DerivationsGrow D E }
+{}
+
+/// A dead term, which a run never leaves, may use anything: so its uses need not be counted.
+pub fn dead_terms_use_anything()
+    ensures { (E : Env) → DeadTermsUseAnything E }
 {}
 
 /// What closes an open tape uses it exactly once; a program that drops its handle has no type, and neither has one that closes it twice.

@@ -81,9 +81,9 @@ changed-behind g (s ∷ S) T t = ap (λ us. s ∷ us) (changed-behind g S T t)
 already-shut : (t : Taped) → t.is_open ≡ false → shut t ≡ t
 already-shut t e = ap (λ b. record t { is_open = b }) (sym e)
 
-next-length : (S : List Taped) (t : Taped) → length (S ++ t ∷ []) ≡ suc (length S)
-next-length [] t = refl
-next-length (s ∷ S) t = ap suc (next-length S t)
+pub next-length : {A : Type 0} (xs : List A) (x : A) → length (xs ++ x ∷ []) ≡ suc (length xs)
+next-length [] x = refl
+next-length (y ∷ xs) x = ap suc (next-length xs x)
 
 -- one tape after those of S, and then those of T
 one-more : (S T : List Taped) (u : Taped) → tape_list ((S ++ u ∷ []) ++ T) (closes_from (length (S ++ u ∷ [])) T) ≡ (S ++ u ∷ []) ++ all_shut T →
