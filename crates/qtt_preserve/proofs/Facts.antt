@@ -1,21 +1,22 @@
 -- The laws that the functions of this crate ensure.
-use Rattle.std.proofs.Common.{ℕ, List, subst}
+use Rattle.std.proofs.Common.{ℕ, List, subst, length}
 use Rattle.qtt_base.specs.declared.place.GlobalId.{GlobalId}
 use Rattle.qtt_usage.specs.Uses.{Use}
 use Rattle.qtt_term.specs.Term.{Term}
 use Rattle.qtt_term.specs.Signature.{Env}
 use Rattle.qtt_term.specs.Contraction.{BodiesClosed}
 use Rattle.qtt_term.specs.FullRun.{full}
-use Rattle.qtt_term.specs.Judgement.{Ctx, Part}
+use Rattle.qtt_term.specs.Judgement.{Ctx, Part, Typed}
 use Rattle.qtt_term.specs.Environment.{WellFormed, Complete, IsMain}
+use Rattle.qtt_term.specs.Substitution.{Below}
 use Rattle.qtt_term.proofs.Evaluation.{full-move}
 use Rattle.qtt_preserve.specs.Inversion.{Inversion}
 use Rattle.qtt_preserve.specs.Laws.{UsesAreExact, SubstitutionWithUses, StepKeepsTypeAndUse, StepsAreNeverStuck, RunKeepsTapes, NeverStuck, TapesClosedOnce, DerivationsGrow, DeadTermsUseAnything}
 use Rattle.qtt_preserve.specs.Grows.{Grows}
+use Rattle.qtt_preserve.proofs.Sound.{typed-below, sound_of, bodied_of}
 use Rattle.qtt_preserve.proofs.Exact.{typed-has, has-typed}
 use Rattle.qtt_preserve.proofs.Substitution.{substitution}
 use Rattle.qtt_preserve.proofs.Inverted.{inverted}
-use Rattle.qtt_preserve.proofs.Sound.{sound_of, bodied_of}
 use Rattle.qtt_preserve.proofs.Preservation.{substitution_of_one, preservation}
 use Rattle.qtt_preserve.proofs.Progress.{Goes, progress}
 use Rattle.qtt_preserve.proofs.Run.{Kept, turn_kept}
@@ -29,6 +30,12 @@ uses_are_exact_holds E p Γ t A u = record { exact = typed-has; bounded = has-ty
 
 pub inversion_holds : (E : Env) (p : Part) (Γ : Ctx) → Inversion E p Γ
 inversion_holds E p Γ = inverted E p Γ
+
+pub in_scope_holds : (E : Env) (p : Part) (Γ : Ctx) (t A : Term) (u : Use) → Typed E p Γ t A u → Below (length Γ) t
+in_scope_holds E p Γ t A u h = typed-below h
+
+pub bodies_closed_holds : (E : Env) → WellFormed E → BodiesClosed E
+bodies_closed_holds E w = (sound_of w).bodies
 
 pub substitution_with_uses_holds : (E : Env) → BodiesClosed E → SubstitutionWithUses E
 substitution_with_uses_holds E bodies = record {

@@ -1,12 +1,13 @@
 //! Laws of typed terms and runs. Each function does nothing: its contract is the law.
 
-ghost use Rattle.std.specs.Prelude.{ℕ, List};
+ghost use Rattle.std.specs.Prelude.{length, ℕ, List};
 ghost use Rattle.qtt_base.specs.declared.place.GlobalId.{GlobalId};
 ghost use Rattle.qtt_usage.specs.Uses.{Use};
 ghost use Rattle.qtt_term.specs.Term.{Term};
+ghost use Rattle.qtt_term.specs.Substitution.{Below};
 ghost use Rattle.qtt_term.specs.Signature.{Env};
 ghost use Rattle.qtt_term.specs.Contraction.{BodiesClosed};
-ghost use Rattle.qtt_term.specs.Judgement.{Part, Ctx};
+ghost use Rattle.qtt_term.specs.Judgement.{Part, Ctx, Typed};
 ghost use Rattle.qtt_term.specs.Environment.{WellFormed, Complete, IsMain};
 ghost use Rattle.qtt_term.specs.Programs.{handles, trapping};
 ghost use Rattle.qtt_preserve.specs.Inversion.{Inversion};
@@ -22,6 +23,13 @@ pub fn uses_are_exact()
 /// A derivation ends, but for conversion, by the rule of its term's form.
 pub fn inversion()
     ensures { (E : Env) (p : Part) (Γ : Ctx) → Inversion E p Γ }
+{}
+
+/// The free variables of a typed term are those of its context; in a well-formed environment no variable is free in a body, as the laws
+/// of conversion ask.
+pub fn typed_terms_are_in_scope()
+    ensures scope { (E : Env) (p : Part) (Γ : Ctx) (t A : Term) (u : Use) → Typed E p Γ t A u → Below (length Γ) t }
+    ensures bodies { (E : Env) → WellFormed E → BodiesClosed E }
 {}
 
 /// Substitution keeps types, and carries uses (Atkey 2018).
