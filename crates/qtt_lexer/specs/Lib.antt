@@ -1,1 +1,7 @@
 pub mod Names
+pub mod Place
+pub mod Characters
+pub mod Piece
+pub mod Quoted
+pub mod Comment
+pub mod Lexed

@@ -2,11 +2,19 @@
 #![tactic(auto)]
 
 mod bytes;
+mod comment;
 mod errors;
 mod names;
+mod number;
+mod piece;
+mod place;
+mod quoted;
 mod token;
+mod word;
 
 pub use bytes::Bytes;
 pub use errors::LexError;
 pub use names::{is_big, is_simple};
+pub use piece::{Cause, Piece};
+pub use place::Place;
 pub use token::{Token, TokenKind};

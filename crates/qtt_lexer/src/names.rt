@@ -5,11 +5,18 @@ ghost use Rattle.qtt_lexer.specs.Names.{is_simple, is_big};
 
 use qtt_base::Name;
 
+/// Whether the text of a name has one part.
+pub fn has_one_part(name: &str) -> bool
+    ensures { result ≡ is_simple name.now }
+{
+    !name.as_bytes().contains(&b'.')
+}
+
 /// Whether a name has one part.
 pub fn is_simple(name: &Name) -> bool
     ensures { result ≡ is_simple name.now }
 {
-    !name.as_str().as_bytes().contains(&b'.')
+    has_one_part(name.as_str())
 }
 
 /// Whether the last part of a name begins with one of `A` to `Z`.

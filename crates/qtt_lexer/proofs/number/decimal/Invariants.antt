@@ -1,0 +1,6 @@
+use Rattle.std.proofs.Common.{◌≡◌, ◌-◌, ◌^◌, min, take}
+use Rattle.qtt_lexer.specs.Piece.{decimal}
+use Rattle.qtt_lexer.proofs.number.decimal.Given as goal
+
+abbrev pub invariant-loop-digit : goal.invariant-loop-digit
+invariant-loop-digit l = l.value ≡ min (decimal (take l.digit-index l.digits)) (2 ^ 64 - 1)
