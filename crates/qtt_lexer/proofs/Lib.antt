@@ -1,6 +1,9 @@
 pub mod Comments
+pub mod Fittings
 pub mod NameParts
 pub mod Numbers
+pub mod Pieces
 pub mod Slices
+pub mod Symbols
 pub mod Texts
 pub mod Words

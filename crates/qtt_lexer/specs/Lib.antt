@@ -4,4 +4,5 @@ pub mod Characters
 pub mod Piece
 pub mod Quoted
 pub mod Comment
+pub mod Fitting
 pub mod Lexed

@@ -11,6 +11,8 @@ use Rattle.qtt_lexer.specs.declared.token.TokenKind.{TokenKind}
 use Rattle.qtt_lexer.specs.declared.token.TokenKind.TheVariants as kind
 use Rattle.qtt_lexer.specs.declared.piece.Cause.{Cause}
 use Rattle.qtt_lexer.specs.declared.piece.Cause.TheVariants.{NotUtf8, BadCharacter, OpenText, OpenComment, NumberTooWide, NameTooLong}
+use Rattle.qtt_lexer.specs.declared.front.Front.{Front}
+use Rattle.qtt_lexer.specs.declared.front.Front.TheVariants as front
 use Rattle.qtt_lexer.specs.declared.quoted.Quotation.{Quotation}
 use Rattle.qtt_lexer.specs.declared.quoted.Quotation.TheVariants.{Closed, LineEnds, TextEnds, BadEscape}
 use Rattle.qtt_lexer.specs.declared.piece.Piece.{Piece}
@@ -143,33 +145,49 @@ comment_tail depth (c ∷ e ∷ cs) =
     else (if closes c e then closing depth (comment_tail (depth - 1) cs)
     else option_map (λ n. n + 1) (comment_tail depth (e ∷ cs)))
 
--- what begins with a `{-` before so many characters
+-- what begins with a `{-`, where so many characters are left in all
 abbrev pub comment_of : Bool → ℕ → Option ℕ → Piece
-comment_of broken rest (Some n) = Gap (n + 2)
-comment_of broken rest None = if broken then Wrong NotUtf8 (rest + 2) 0 else Wrong OpenComment 0 2
+comment_of broken all (Some n) = Gap (n + 2)
+comment_of broken all None = if broken then Wrong NotUtf8 all 0 else Wrong OpenComment 0 2
 
--- a comment to the end of its line
+-- a `-` and these characters to the end of their line
 abbrev pub line_of : List ℕ → Piece
-line_of cs = Gap (prefix_len (λ c. not (c == 10)) cs)
+line_of cs = Gap (prefix_len (λ c. not (c == 10)) cs + 1)
 
 -- Symbols
 
--- the symbols, each before those that it begins with
-abbrev pub symbols : List (List ℕ × TokenKind)
-symbols =
+-- the symbols of two characters, and those of one
+abbrev pub pairs : List (List ℕ × TokenKind)
+pairs =
     (codes ".(", kind.DotParen) ∷ (codes "->", kind.Arrow) ∷ (codes "<-", kind.LeftArrow)
-    ∷ (codes "=>", kind.FatArrow) ∷ (codes "=", kind.Equals) ∷ (codes "(", kind.LeftParen)
-    ∷ (codes ")", kind.RightParen) ∷ (codes ":", kind.Colon) ∷ (codes ";", kind.Semicolon)
-    ∷ (codes "\\", kind.Backslash) ∷ (codes "{", kind.LeftBrace) ∷ (codes "}", kind.RightBrace) ∷ []
+    ∷ (codes "=>", kind.FatArrow) ∷ []
 
--- the first of these symbols with which the characters begin
-abbrev pub symbol_in : List (List ℕ × TokenKind) → List ℕ → Option (TokenKind × ℕ)
-symbol_in [] cs = None
-symbol_in (symbol ∷ others) cs =
-    if starts_with nat_eq cs symbol.0 then Some (symbol.1, length symbol.0) else symbol_in others cs
+abbrev pub singles : List (List ℕ × TokenKind)
+singles =
+    (codes "(", kind.LeftParen) ∷ (codes ")", kind.RightParen) ∷ (codes ":", kind.Colon)
+    ∷ (codes "=", kind.Equals) ∷ (codes ";", kind.Semicolon) ∷ (codes "\\", kind.Backslash)
+    ∷ (codes "{", kind.LeftBrace) ∷ (codes "}", kind.RightBrace) ∷ []
 
+-- a symbol and its number of characters
+abbrev pub sized : ℕ → Option TokenKind → Option (TokenKind × ℕ)
+sized n None = None
+sized n (Some kind) = Some (kind, n)
+
+abbrev pub or_else : Option (TokenKind × ℕ) → Option (TokenKind × ℕ) → Option (TokenKind × ℕ)
+or_else None other = other
+or_else (Some symbol) other = Some symbol
+
+abbrev pub of_one : ℕ → Option (TokenKind × ℕ)
+of_one c = sized 1 (listed singles (c ∷ []))
+
+abbrev pub of_two : ℕ → ℕ → Option (TokenKind × ℕ)
+of_two c e = or_else (sized 2 (listed pairs (c ∷ e ∷ []))) (of_one c)
+
+-- the longest symbol that begins here
 unfoldable pub symbol_at : List ℕ → Option (TokenKind × ℕ)
-symbol_at cs = symbol_in symbols cs
+symbol_at [] = None
+symbol_at (c ∷ []) = of_one c
+symbol_at (c ∷ e ∷ cs) = of_two c e
 
 -- any other character is bad
 abbrev pub symbol_of : ℕ → Option (TokenKind × ℕ) → Piece
@@ -181,16 +199,31 @@ symbol_of c (Some symbol) = Token symbol.0 symbol.1
 abbrev pub is_dash : ℕ → Bool
 is_dash c = c == 45
 
--- what stands at the front of these characters, behind which bytes follow that are no character, or nothing
+-- what a character begins before these characters
+abbrev pub front_of : ℕ → List ℕ → Front
+front_of c cs =
+    if is_blank c then front.Blank
+    else (if is_dash c && begins is_dash cs then front.Line
+    else (if (c == 123) && begins is_dash cs then front.Comment
+    else (if c == 34 then front.Text
+    else (if c == 63 then front.Hole
+    else (if begins_part c then front.Name
+    else (if is_ascii_digit c then front.Number
+    else (if is_dash c && begins is_ascii_digit cs then front.Negative
+    else front.Symbol)))))))
+
+abbrev pub by_front : Bool → ℕ → List ℕ → Front → Piece
+by_front broken c cs front.Blank = Gap 1
+by_front broken c cs front.Line = line_of cs
+by_front broken c cs front.Comment = comment_of broken (length cs + 1) (comment_tail 0 (drop 1 cs))
+by_front broken c cs front.Text = text_of broken (quoted cs)
+by_front broken c cs front.Hole = hole_at cs
+by_front broken c cs front.Name = name_at (c ∷ cs)
+by_front broken c cs front.Number = number_at false (c ∷ cs)
+by_front broken c cs front.Negative = number_at true cs
+by_front broken c cs front.Symbol = symbol_of c (symbol_at (c ∷ cs))
+
+-- what stands at the front of characters; broken says that bytes follow them that are no character
 unfoldable pub piece_at : Bool → List ℕ → Piece
 piece_at broken [] = Gap 0
-piece_at broken (c ∷ cs) =
-    if is_blank c then Gap 1
-    else (if is_dash c && begins is_dash cs then line_of (c ∷ cs)
-    else (if (c == 123) && begins is_dash cs then comment_of broken (length cs - 1) (comment_tail 0 (drop 1 cs))
-    else (if c == 34 then text_of broken (quoted cs)
-    else (if c == 63 then hole_at cs
-    else (if begins_part c then name_at (c ∷ cs)
-    else (if is_ascii_digit c then number_at false (c ∷ cs)
-    else (if is_dash c && begins is_ascii_digit cs then number_at true cs
-    else symbol_of c (symbol_at (c ∷ cs)))))))))
+piece_at broken (c ∷ cs) = by_front broken c cs (front_of c cs)

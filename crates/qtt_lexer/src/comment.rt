@@ -72,26 +72,34 @@ pub fn comment_tail(characters: &[char]) -> Option<usize>
     }
 }
 
-/// The comment that begins with `{-` before these characters.
-pub fn comment_at(broken: bool, characters: &[char]) -> Piece
+/// The comment that begins with `{-` before these characters, where so many are left in all.
+pub fn comment_at(broken: bool, all: usize, characters: &[char]) -> Piece
     requires { length characters.now < 2 ^ 32 }
-    ensures { result ≡ comment_of broken (length characters.now) (comment_tail 0 characters.now) }
+    ensures { result ≡ comment_of broken all (comment_tail 0 characters.now) }
 {
     match comment_tail(characters) {
         Some(len) => Piece::Gap(len + 2),
-        None if broken => Piece::Wrong(Cause::NotUtf8, characters.len() + 2, 0),
+        None if broken => Piece::Wrong(Cause::NotUtf8, all, 0),
         None => Piece::Wrong(Cause::OpenComment, 0, 2),
     }
 }
 
-/// The comment to the end of its line that begins here.
-pub fn line_at(characters: &[char]) -> Piece
-    ensures { result ≡ line_of characters.now }
+fn line_length(characters: &[char]) -> usize
+    ensures value { result ≡ prefix_len (λ c. not (c == 10)) characters.now }
+    ensures within { result ≤ length characters.now }
 {
     for (i, character) in characters.iter().enumerate() {
         if *character == '\n' {
-            return Piece::Gap(i);
+            return i;
         }
     }
-    Piece::Gap(characters.len())
+    characters.len()
+}
+
+/// The comment to the end of the line that begins with a `-` before these characters.
+pub fn line_at(characters: &[char]) -> Piece
+    requires { length characters.now < 2 ^ 32 }
+    ensures { result ≡ line_of characters.now }
+{
+    Piece::Gap(line_length(characters) + 1)
 }

@@ -4,11 +4,13 @@
 mod bytes;
 mod comment;
 mod errors;
+mod front;
 mod names;
 mod number;
 mod piece;
 mod place;
 mod quoted;
+mod symbol;
 mod token;
 mod word;
 

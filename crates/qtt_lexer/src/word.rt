@@ -85,7 +85,8 @@ pub fn spelled(alloc: Global, characters: &[char]) -> Result<String, MemoryError
     Ok(text)
 }
 
-fn bad(character: char) -> Piece
+/// A character that begins nothing.
+pub fn bad(character: char) -> Piece
     ensures { result ≡ bad character }
 {
     Piece::Wrong(Cause::BadCharacter(character), 0, 1)
