@@ -1,5 +1,6 @@
 pub mod Comments
 pub mod Fittings
+pub mod Lexing
 pub mod NameParts
 pub mod Numbers
 pub mod Pieces

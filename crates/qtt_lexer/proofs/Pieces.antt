@@ -1,7 +1,8 @@
 -- Pieces at the front of characters, and their lengths.
-use Rattle.std.proofs.Common.{◌≡◌, ℕ, zero, suc, ◌+◌, ◌-◌, ◌<◌, ◌≤◌, Bool, true, false, cond, List, [], ◌∷◌, length, take, drop, Option, Some, None, option_map, Result, IfOk, IfSome, refl, sym, ap, subst, ◌∙◌, arith}
+use Rattle.std.proofs.Common.{◌≡◌, ℕ, zero, suc, ◌+◌, ◌-◌, ◌<◌, ◌≤◌, Bool, true, false, cond, List, [], ◌∷◌, length, take, drop, Option, Some, None, option_map, Result, Ok, Err, IfOk, IfSome, refl, sym, ap, subst, ◌∙◌, arith}
 use Rattle.qtt_base.specs.declared.errors.MemoryError.{MemoryError}
 use Rattle.qtt_lexer.specs.Piece.{piece_at, by_front, front_of}
+use Rattle.qtt_lexer.specs.Fitting.{Fits}
 use Rattle.qtt_lexer.proofs.Fittings.{piece_at-fits}
 use Rattle.qtt_lexer.specs.declared.front.Front.{Front}
 use Rattle.qtt_lexer.specs.declared.piece.Piece.{Piece}
@@ -17,3 +18,7 @@ unfolding piece_at
 piece_at-front broken cs behind c f r is front_is h =
     let same : by_front broken c behind f ≡ piece_at broken cs = ap (by_front broken c behind) front_is ∙ sym (ap (piece_at broken) is) in
     subst (λ (q : Piece). IfOk r (λ piece. piece ≡ q)) same h
+
+pub fits_from : (broken : Bool) (cs : List ℕ) (r : Result Piece MemoryError) → IfOk r (λ piece. piece ≡ piece_at broken cs) → 0 < length cs → IfOk r (Fits (length cs))
+fits_from broken cs (Ok piece) h some = subst (Fits (length cs)) (sym h) (piece_at-fits broken cs some)
+fits_from broken cs (Err e) h some = tt

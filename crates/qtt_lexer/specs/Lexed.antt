@@ -1,13 +1,15 @@
 -- The tokens of a module's text, or its first fault.
-use Rattle.std.specs.Prelude.{◌≡◌, ℕ, zero, suc, ◌-◌, ◌==◌, nat_lt, if◌then◌else◌, Bool, true, false, List, [], ◌∷◌, length, take, Result, Ok, Err, encode_utf8}
+use Rattle.std.specs.Prelude.{◌≡◌, ℕ, zero, suc, ◌-◌, ◌<◌, ◌≤◌, ◌==◌, nat_lt, if◌then◌else◌, Bool, true, false, List, [], ◌∷◌, ◌++◌, length, take, drop, Result, Ok, Err, Vec, encode_utf8}
+use Rattle.std.specs.Global.{Global}
 use Rattle.std.specs.Str.{chars, encode_utf8_all}
 use Rattle.std.specs.Str.Lossy.{utf8_valid_len}
-use Rattle.std.specs.declared.alloc.Global.{Global}
 use Rattle.qtt_base.specs.declared.place.Span.{Span}
 use Rattle.qtt_base.specs.declared.errors.Fault.{Fault}
 use Rattle.qtt_lexer.specs.Place.{start, place_behind, place_after, span_at}
 use Rattle.qtt_lexer.specs.Piece.{piece_at}
 use Rattle.qtt_lexer.specs.declared.place.Place.{Place}
+use Rattle.qtt_lexer.specs.declared.errors.LexError.{LexError}
+use Rattle.qtt_lexer.specs.declared.errors.LexError.TheVariants as errors
 use Rattle.qtt_lexer.specs.declared.piece.Cause.{Cause}
 use Rattle.qtt_lexer.specs.declared.piece.Cause.TheVariants.{NotUtf8, BadCharacter, OpenText, OpenComment, NumberTooWide, NameTooLong}
 use Rattle.qtt_lexer.specs.declared.piece.Piece.{Piece}
@@ -78,3 +80,24 @@ unfoldable pub lexed : List ℕ → Result (List Token) Mistake
 lexed bytes =
     let n = utf8_valid_len bytes in
     tokens_from (nat_lt n (length bytes)) start 0 (without_mark (chars (take n bytes)))
+
+-- tokens that have been read, and then those that follow
+abbrev pub with_front : List Token → Result (List Token) Mistake → Result (List Token) Mistake
+with_front front (Ok ts) = Ok (front ++ ts)
+with_front front (Err m) = Err m
+
+-- a piece was read at the front of cs, of so many characters; old and new are the tokens before and after it
+abbrev pub ReadsPiece : Bool → Place → List ℕ → List Token → List Token → ℕ → Type 0
+ReadsPiece broken p cs old new n =
+    (0 < n) × (n ≤ length cs)
+    × (with_front new (tokens_from broken (place_after p (take n cs)) 0 (drop n cs)) ≡ with_front old (tokens_from broken p 0 cs))
+
+-- the error is want of memory, or keeps this fault
+abbrev pub Refuses : LexError → Result (List Token) Mistake → Type 0
+Refuses errors.Memory outcome = Unit {0}
+Refuses (errors.Fault fault) outcome = outcome ≡ Err (seen fault)
+
+-- the answer is exactly these tokens or this fault, unless memory ran out
+abbrev pub Gives : Result (Vec Token Global) LexError → Result (List Token) Mistake → Type 0
+Gives (Ok tokens) outcome = outcome ≡ Ok tokens.items
+Gives (Err e) outcome = Refuses e outcome

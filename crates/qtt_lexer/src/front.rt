@@ -3,6 +3,7 @@
 ghost use Rattle.std.specs.Prelude.{◌≡◌, ℕ, ◌+◌, ◌<◌, ◌^◌, ◌∷◌, length, drop, IfOk};
 ghost use Rattle.qtt_lexer.specs.Characters.{is_blank, begins};
 ghost use Rattle.std.specs.Char.{is_ascii_digit};
+ghost use Rattle.qtt_lexer.specs.Fitting.{Fits};
 ghost use Rattle.qtt_lexer.specs.Piece.{is_dash, front_of, symbol_of, piece_at, by_front};
 
 use crate::comment::{comment_at, line_at};
@@ -130,7 +131,8 @@ pub fn piece_at(
     characters: &[char],
 ) -> Result<Piece, MemoryError>
     requires { length characters.now < 2 ^ 31 }
-    ensures { IfOk result (λ piece. piece ≡ piece_at broken characters.now) }
+    ensures value { IfOk result (λ piece. piece ≡ piece_at broken characters.now) }
+    ensures fits { 0 < length characters.now → IfOk result (Fits (length characters.now)) }
 {
     let [first, behind @ ..] = characters else {
         return Ok(Piece::Gap(0));

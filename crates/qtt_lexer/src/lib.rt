@@ -5,6 +5,7 @@ mod bytes;
 mod comment;
 mod errors;
 mod front;
+mod lex;
 mod names;
 mod number;
 mod piece;
