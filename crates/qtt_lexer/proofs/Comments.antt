@@ -1,5 +1,5 @@
 -- Comments, read step by step.
-use Rattle.std.proofs.Common.{◌≡◌, ℕ, zero, suc, ◌+◌, ◌-◌, ◌<◌, ◌≤◌, Bool, true, false, List, [], ◌∷◌, length, Option, Some, None, option_map, refl, sym, ap, ◌∙◌, arith}
+use Rattle.std.proofs.Common.{◌≡◌, ℕ, suc, ◌+◌, ◌-◌, ◌≤◌, true, false, List, [], ◌∷◌, length, None, option_map, refl, sym, ap, ◌∙◌, arith}
 use Rattle.qtt_lexer.specs.Piece.{comment_tail, closing, opens, closes}
 
 module _ (cs behind rest : List ℕ) (c e : ℕ) (is : cs ≡ c ∷ behind) (behind_is : behind ≡ e ∷ rest) where

@@ -1,5 +1,5 @@
 -- Pieces lie within the characters at whose front they stand.
-use Rattle.std.proofs.Common.{◌≡◌, ℕ, zero, suc, ◌+◌, ◌-◌, ◌<◌, ◌≤◌, ◌^◌, ◌==◌, ◌&&◌, not, nat_lt, nat_le, Bool, true, false, cond, List, [], ◌∷◌, length, take, drop, Option, Some, None, option_map, is_some, IfSome, refl, sym, ap, subst, ◌∙◌, arith}
+use Rattle.std.proofs.Common.{◌≡◌, ℕ, zero, suc, ◌+◌, ◌-◌, ◌<◌, ◌≤◌, ◌^◌, ◌==◌, ◌&&◌, not, nat_lt, nat_le, Bool, true, false, cond, List, [], ◌∷◌, length, take, drop, Option, Some, None, option_map, IfSome, refl, arith}
 use Rattle.std.specs.List.{prefix_len}
 use Rattle.std.specs.Char.{is_ascii_digit}
 use Rattle.std.specs.Str.{encode_utf8_all}
@@ -9,15 +9,13 @@ use Rattle.qtt_base.specs.Parts.{has_long_part}
 use Rattle.qtt_lexer.specs.Characters.{is_blank, begins, begins_part}
 use Rattle.qtt_lexer.specs.Fitting.{Fits}
 use Rattle.qtt_lexer.specs.Quoted.{IsWithin}
-use Rattle.qtt_lexer.specs.Piece.{piece_at, by_front, front_of, is_dash, name_at, name_length, word_of, hole_at, hole_of, names_hole, number_at, number_of, decimal, quoted, preceded, by_escape, escape, text_of, comment_tail, closing, opens, closes, comment_of, line_of, symbol_at, symbol_of, of_one, of_two, sized, or_else, listed, pairs, singles, bad}
+use Rattle.qtt_lexer.specs.Piece.{piece_at, by_front, front_of, is_dash, name_at, name_length, hole_at, hole_of, names_hole, number_at, number_of, quoted, preceded, by_escape, escape, text_of, comment_tail, closing, opens, closes, comment_of, symbol_at, symbol_of, of_one, sized, or_else, listed, pairs, singles}
 use Rattle.qtt_lexer.specs.declared.front.Front.{Front}
 use Rattle.qtt_lexer.specs.declared.front.Front.TheVariants as front
 use Rattle.qtt_lexer.specs.declared.quoted.Quotation.{Quotation}
 use Rattle.qtt_lexer.specs.declared.quoted.Quotation.TheVariants.{Closed, LineEnds, TextEnds, BadEscape}
 use Rattle.qtt_lexer.specs.declared.token.TokenKind.{TokenKind}
-use Rattle.qtt_lexer.specs.declared.piece.Cause.{Cause}
 use Rattle.qtt_lexer.specs.declared.piece.Piece.{Piece}
-use Rattle.qtt_lexer.specs.declared.piece.Piece.TheVariants.{Gap, Token, Wrong}
 use Rattle.qtt_lexer.proofs.Words.{name_tail-le-length}
 
 -- Texts

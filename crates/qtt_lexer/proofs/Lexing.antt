@@ -1,5 +1,5 @@
 -- The tokens of a text, read piece by piece.
-use Rattle.std.proofs.Common.{◌≡◌, ℕ, zero, suc, ◌+◌, ◌-◌, ◌<◌, ◌≤◌, Bool, true, false, List, [], ◌∷◌, ◌++◌, length, take, drop, Result, Ok, Err, refl, sym, ap, subst, ◌∙◌, append_assoc, arith}
+use Rattle.std.proofs.Common.{◌≡◌, ℕ, zero, suc, ◌-◌, ◌<◌, ◌≤◌, Bool, List, [], ◌∷◌, ◌++◌, length, take, drop, Result, Ok, Err, refl, sym, ap, subst, ◌∙◌, append_assoc, arith}
 use Rattle.qtt_lexer.specs.Place.{place_behind, place_after}
 use Rattle.qtt_lexer.specs.Piece.{piece_at}
 use Rattle.qtt_lexer.specs.Lexed.{tokens_from, by_piece, token, mistake, put_first, with_front, ReadsPiece, Refuses, Mistake}
@@ -58,15 +58,17 @@ module _ (broken : Bool) (p : Place) (cs : List ℕ) (q : Piece) (q_is : q ≡ p
   pub reads_token : (kind : TokenKind) (n : ℕ) (t : Token) (old new : List Token) → q ≡ piece.Token kind n → t ≡ token kind p (take n cs) → new ≡ old ++ t ∷ [] → ReadsPiece broken p cs old new n
   reads_token kind n t old new is t_is new_is =
       let within : (0 < n) × (n ≤ length cs) = subst (Fits (length cs)) is fits in
-      let rest = tokens_from broken (place_after p (take n cs)) 0 (drop n cs) in
-      (within.0, within.1,
-      ap (λ (ts : List Token). with_front ts rest) new_is
-      ∙ sym (with_front-put_first old t rest)
-      ∙ ap (λ (u : Token). with_front old (put_first u rest)) t_is
-      ∙ ap (with_front old) (sym (tokens_from-token broken p kind n cs some (sym is ∙ q_is) within.0 within.1)))
+      let rest = tokens_from broken (place_after p (take n cs)) 0 (drop n cs) in (
+        within.0,
+        within.1,
+        ap (λ (ts : List Token). with_front ts rest) new_is
+            ∙ sym (with_front-put_first old t rest)
+            ∙ ap (λ (u : Token). with_front old (put_first u rest)) t_is
+            ∙ ap (with_front old) (sym (tokens_from-token broken p kind n cs some (sym is ∙ q_is) within.0 within.1)),
+      )
 
   pub reads_wrong : (cause : Cause) (before n : ℕ) (e : LexError) (at : Place) → q ≡ piece.Wrong cause before n → at ≡ place_after p (take before cs) → Refuses e (Err (mistake cause at n)) → Refuses e (tokens_from broken p 0 cs)
   reads_wrong cause before n e at is at_is h =
       let same : Err (mistake cause at n) ≡ tokens_from broken p 0 cs =
-          ap (λ (x : Place). Err (mistake cause x n)) at_is ∙ sym (tokens_from-wrong broken p cause before n cs some (sym is ∙ q_is)) in
+      ap (λ (x : Place). Err (mistake cause x n)) at_is ∙ sym (tokens_from-wrong broken p cause before n cs some (sym is ∙ q_is)) in
       subst (Refuses e) same h

@@ -1,5 +1,5 @@
 -- Pieces at the front of characters, and their lengths.
-use Rattle.std.proofs.Common.{◌≡◌, ℕ, zero, suc, ◌+◌, ◌-◌, ◌<◌, ◌≤◌, Bool, true, false, cond, List, [], ◌∷◌, length, take, drop, Option, Some, None, option_map, Result, Ok, Err, IfOk, IfSome, refl, sym, ap, subst, ◌∙◌, arith}
+use Rattle.std.proofs.Common.{◌≡◌, ℕ, ◌<◌, ◌≤◌, Bool, List, [], ◌∷◌, length, Result, Ok, Err, IfOk, refl, sym, ap, subst, ◌∙◌, arith}
 use Rattle.qtt_base.specs.declared.errors.MemoryError.{MemoryError}
 use Rattle.qtt_lexer.specs.Piece.{piece_at, by_front, front_of}
 use Rattle.qtt_lexer.specs.Fitting.{Fits}

@@ -1,5 +1,5 @@
 -- One step in a comment behind its opening.
-use Rattle.std.specs.Prelude.{◌≡◌, ℕ, suc, ◌+◌, ◌-◌, List, length, Option, None, option_map}
+use Rattle.std.specs.Prelude.{◌≡◌, ℕ, suc, ◌+◌, ◌-◌, List, length, None, option_map}
 use Rattle.qtt_lexer.specs.Piece.{comment_tail, closing}
 use Rattle.qtt_lexer.specs.declared.comment.CommentStep.{CommentStep}
 use Rattle.qtt_lexer.specs.declared.comment.CommentStep.TheVariants.{Opens, Closes, Skips, Ends}

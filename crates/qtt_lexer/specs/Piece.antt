@@ -1,6 +1,6 @@
 -- What stands at the front of characters: a blank, a comment, a token or a fault.
-use Rattle.std.specs.Prelude.{◌≡◌, ℕ, zero, suc, ◌+◌, ◌-◌, ◌*◌, ◌^◌, ◌==◌, ◌&&◌, ◌||◌, not, nat_lt, nat_le, nat_eq, if◌then◌else◌, Bool, true, false, ℤ, pos, neg_ℤ, List, [], ◌∷◌, ◌++◌, length, take, drop, fold, codes, Option, Some, None, is_some, unwrap_or, option_map, encode_utf8, refl}
-use Rattle.std.specs.List.{prefix_len, starts_with, take_while}
+use Rattle.std.specs.Prelude.{ℕ, zero, suc, ◌+◌, ◌-◌, ◌*◌, ◌^◌, ◌==◌, ◌&&◌, not, nat_lt, nat_le, nat_eq, if◌then◌else◌, Bool, true, false, pos, neg_ℤ, List, [], ◌∷◌, ◌++◌, length, take, drop, fold, codes, Option, Some, None, is_some, unwrap_or, option_map, encode_utf8}
+use Rattle.std.specs.List.{prefix_len, take_while}
 use Rattle.std.specs.Str.{encode_utf8_all}
 use Rattle.std.specs.Char.{is_ascii_digit}
 use Rattle.std.specs.Cmp.Lexicographic.{pointwise}
@@ -9,7 +9,6 @@ use Rattle.qtt_lexer.specs.Names.{is_simple}
 use Rattle.qtt_lexer.specs.Characters.{is_blank, begins_part, begins, goes_on}
 use Rattle.qtt_lexer.specs.declared.token.TokenKind.{TokenKind}
 use Rattle.qtt_lexer.specs.declared.token.TokenKind.TheVariants as kind
-use Rattle.qtt_lexer.specs.declared.piece.Cause.{Cause}
 use Rattle.qtt_lexer.specs.declared.piece.Cause.TheVariants.{NotUtf8, BadCharacter, OpenText, OpenComment, NumberTooWide, NameTooLong}
 use Rattle.qtt_lexer.specs.declared.front.Front.{Front}
 use Rattle.qtt_lexer.specs.declared.front.Front.TheVariants as front

@@ -125,11 +125,7 @@ fn by_front(
 }
 
 /// The piece at the front of characters; `broken` says that bytes follow them that are no character.
-pub fn piece_at(
-    alloc: Global,
-    broken: bool,
-    characters: &[char],
-) -> Result<Piece, MemoryError>
+pub fn piece_at(alloc: Global, broken: bool, characters: &[char]) -> Result<Piece, MemoryError>
     requires { length characters.now < 2 ^ 31 }
     ensures value { IfOk result (λ piece. piece ≡ piece_at broken characters.now) }
     ensures fits { 0 < length characters.now → IfOk result (Fits (length characters.now)) }

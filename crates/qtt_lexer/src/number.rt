@@ -37,9 +37,7 @@ fn decimal(digits: &[char]) -> u64
 {
     let mut value: u64 = 0;
     for digit in digits {
-        value = value
-            .saturating_mul(10)
-            .saturating_add(digit_value(*digit));
+        value = value.saturating_mul(10).saturating_add(digit_value(*digit));
     }
     value
 }

@@ -1,4 +1,4 @@
-use Rattle.std.proofs.Common.{◌≡◌, not, ◌==◌, ℕ, ap, ◌∙◌, List}
+use Rattle.std.proofs.Common.{not, ◌==◌, ℕ, ap, ◌∙◌, List}
 use Rattle.std.specs.List.{list_any}
 use Rattle.qtt_lexer.proofs.NameParts.{simple_without_dot}
 use Rattle.qtt_lexer.proofs.names.has_one_part.Goals as goal

@@ -1,5 +1,4 @@
-use Rattle.std.proofs.Common.{arith, sym, subst, List, ℕ}
-use Rattle.qtt_lexer.specs.Quoted.{IsStep}
+use Rattle.std.proofs.Common.{arith}
 use Rattle.qtt_lexer.proofs.Slices.{first_and_rest}
 use Rattle.qtt_lexer.proofs.Texts.{end_step, closed_step, line_step, plain_step, escaped_from}
 use Rattle.qtt_lexer.proofs.quoted.next_step.Goals as goal

@@ -1,7 +1,7 @@
 use Rattle.std.proofs.Common.{◌≡◌, ◌+◌, ◌*◌, ◌≤◌, length}
 use Rattle.qtt_lexer.specs.Place.{start}
 use Rattle.qtt_lexer.specs.Lexed.{tokens_from, with_front}
-use Rattle.qtt_lexer.proofs.lex.lex_characters.Given as goal
+use Rattle.qtt_lexer.proofs.tokens.lex_characters.Given as goal
 
 abbrev pub invariant-pieces : goal.invariant-pieces
 invariant-pieces l = record {

@@ -1,6 +1,6 @@
 use Rattle.std.proofs.Common.{refl}
 use Rattle.qtt_lexer.specs.Lexed.{tokens_from}
-use Rattle.qtt_lexer.proofs.lex.read_end.Goals as goal
+use Rattle.qtt_lexer.proofs.tokens.read_end.Goals as goal
 
 pub returns-then-broken : goal.returns-then-broken
 unfolding tokens_from

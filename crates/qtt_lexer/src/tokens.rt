@@ -1,9 +1,10 @@
 //! The tokens of a text.
 
-ghost use Rattle.std.specs.Prelude.{◌≡◌, ℕ, ◌+◌, ◌*◌, ◌<◌, ◌≤◌, ◌^◌, List, [], length, take, drop, Err, IfOk, IfErr};
-ghost use Rattle.std.specs.Str.{encode_utf8_all};
+ghost use Rattle.std.specs.Prelude.{◌≡◌, ℕ, ◌+◌, ◌*◌, ◌<◌, ◌≤◌, ◌^◌, List, [], length, take, drop, nat_lt, Err, IfOk, IfErr};
+ghost use Rattle.std.specs.Str.{chars};
+ghost use Rattle.std.specs.Str.Lossy.{utf8_valid_len};
 ghost use Rattle.qtt_lexer.specs.Place.{start, place_after};
-ghost use Rattle.qtt_lexer.specs.Lexed.{Gives, Refuses, seen, kind_of, kept_word, mistake, token, tokens_from, with_front, ReadsPiece};
+ghost use Rattle.qtt_lexer.specs.Lexed.{Gives, Refuses, seen, kind_of, kept_word, mistake, token, tokens_from, with_front, ReadsPiece, without_mark, lexed};
 
 use crate::errors::LexError;
 use crate::front::piece_at;
@@ -117,11 +118,7 @@ fn read_end(
     Ok(tokens)
 }
 
-fn lex_characters(
-    alloc: Global,
-    broken: bool,
-    characters: &[char],
-) -> Result<Vec<Token>, LexError>
+fn lex_characters(alloc: Global, broken: bool, characters: &[char]) -> Result<Vec<Token>, LexError>
     requires { length characters.now < 2 ^ 29 }
     ensures { Gives result (tokens_from broken start 0 characters.now) }
 {
@@ -134,4 +131,46 @@ fn lex_characters(
         rest = &rest[len..];
     }
     read_end(alloc, broken, place, tokens)
+}
+
+// The text before the first byte that is no part of a character, and whether there is such a byte.
+fn front_text(bytes: &[u8]) -> (&str, bool)
+    ensures text { result.0.now ≡ take (utf8_valid_len bytes.now) bytes.now }
+    ensures broken { result.1 ≡ nat_lt (utf8_valid_len bytes.now) (length bytes.now) }
+{
+    let error = match str::from_utf8(bytes) {
+        Ok(text) => return (text, false),
+        Err(error) => error,
+    };
+    match str::from_utf8(&bytes[..error.valid_up_to()]) {
+        Ok(text) => (text, true),
+        Err(_) => unreachable!(),
+    }
+}
+
+fn characters_of(alloc: Global, text: &str) -> Result<Vec<char>, MemoryError>
+    ensures value { IfOk result (λ characters. characters.items ≡ chars text.now) }
+    ensures few { IfOk result (λ characters. length characters.items ≤ length text.now) }
+{
+    Ok(text.chars().collect(alloc)?)
+}
+
+fn without_mark(characters: &[char]) -> &[char]
+    ensures value { result.now ≡ without_mark characters.now }
+    ensures few { length result.now ≤ length characters.now }
+{
+    match characters {
+        ['\u{FEFF}', behind @ ..] => behind,
+        _ => characters,
+    }
+}
+
+/// The tokens of a module's text.
+pub fn lex(alloc: Global, bytes: &[u8]) -> Result<Vec<Token>, LexError>
+    requires { length bytes.now < 2 ^ 29 }
+    ensures { Gives result (lexed bytes.now) }
+{
+    let (text, broken) = front_text(bytes);
+    let characters = characters_of(alloc, text)?;
+    lex_characters(alloc, broken, without_mark(characters.as_slice()))
 }

@@ -1,6 +1,5 @@
-use Rattle.std.proofs.Common.{◌≡◌, ap, sym, ◌∙◌}
 use Rattle.qtt_lexer.proofs.Lexing.{reads_gap, reads_token, reads_wrong}
-use Rattle.qtt_lexer.proofs.lex.read_piece.Goals as goal
+use Rattle.qtt_lexer.proofs.tokens.read_piece.Goals as goal
 
 pub returns-in-Gap-clause-ok : goal.returns-in-Gap-clause-ok
 returns-in-Gap-clause-ok c =
