@@ -22,3 +22,6 @@ pub use piece::{Cause, Piece};
 pub use place::Place;
 pub use token::{Token, TokenKind};
 pub use tokens::lex;
+
+#[cfg(test)]
+mod tests;
