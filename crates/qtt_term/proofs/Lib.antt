@@ -8,3 +8,4 @@ pub mod Output
 pub mod Scope
 pub mod Rows
 pub mod PrimFormed
+pub mod Moves

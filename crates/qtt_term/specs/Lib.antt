@@ -17,3 +17,8 @@ pub mod Programs
 pub mod Rows
 pub mod Ask
 pub mod Infer
+pub mod Shift
+pub mod Items
+pub mod Globals
+pub mod Answers
+pub mod Contexts

@@ -6,7 +6,7 @@ ghost use Rattle.qtt_term.specs.declared.term.TermError.TheVariants.{Memory};
 use qtt_base::GlobalId;
 use qtt_prims::{ActKind, Lit, Primitive};
 use qtt_usage::mult::Mult;
-use std::alloc::{AllocError, AllocFailed};
+use std::alloc::{AllocError, AllocFailed, Global};
 use thiserror::Error;
 
 /// Want of memory. An index that would reach 2^31 counts as one.
@@ -107,4 +107,28 @@ pub struct Delete {
     pub motive: Term,
     pub branch: Term,
     pub scrutinee: Term,
+}
+
+impl Term {
+    ghost use Rattle.std.specs.Prelude.{IfOk};
+    ghost use Rattle.qtt_term.specs.Term.{Pi, Lam, App};
+    ghost use Rattle.qtt_term.specs.View.{term};
+
+    pub fn pi(alloc: Global, mult: Mult, domain: Term, codomain: Term) -> Result<Term, TermError>
+        ensures { IfOk result (λ t. term t ≡ Pi mult (term domain) (term codomain)) }
+    {
+        Ok(Term::Pi(mult, Box::new(alloc, domain)?, Box::new(alloc, codomain)?))
+    }
+
+    pub fn lam(alloc: Global, mult: Mult, domain: Term, body: Term) -> Result<Term, TermError>
+        ensures { IfOk result (λ t. term t ≡ Lam mult (term domain) (term body)) }
+    {
+        Ok(Term::Lam(mult, Box::new(alloc, domain)?, Box::new(alloc, body)?))
+    }
+
+    pub fn app(alloc: Global, mult: Mult, function: Term, argument: Term) -> Result<Term, TermError>
+        ensures { IfOk result (λ t. term t ≡ App mult (term function) (term argument)) }
+    {
+        Ok(Term::App(mult, Box::new(alloc, function)?, Box::new(alloc, argument)?))
+    }
 }
