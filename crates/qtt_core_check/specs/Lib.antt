@@ -1,0 +1,2 @@
+pub mod FirstSpent
+pub mod Laws

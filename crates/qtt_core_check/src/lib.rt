@@ -1,0 +1,4 @@
+//! The core judgement: its laws.
+#![tactic(auto)]
+
+pub mod laws;
