@@ -1,0 +1,5 @@
+pub mod Flat
+pub mod Conversion
+pub mod StandsFor
+pub mod Laws
+pub mod Rows
