@@ -1,8 +1,9 @@
 -- Closure conversion. Functions are numbered in preorder, those of a Case's scrutinee before those of its branches. A function captures
 -- the variables of its surroundings that it mentions, the outermost first.
-use Rattle.std.specs.Prelude.{ℕ, zero, suc, ◌+◌, List, [], ◌∷◌, ◌++◌, Bool, false, cond, ◌||◌, eqb}
+use Rattle.std.specs.Prelude.{ℕ, zero, suc, List, [], ◌∷◌, ◌++◌, Bool, false, cond, ◌||◌, eqb}
 use Rattle.qtt_term.specs.Term.{first, rest}
-use Rattle.qtt_erase.specs.Binding.{Tree, Trees, ∅, ◌◂◌, size}
+use Rattle.qtt_term.specs.Substitution.{shift}
+use Rattle.qtt_erase.specs.Binding.{Tree, ∅, ◌◂◌, size}
 use Rattle.qtt_erase.specs.Operator.{Operator, waiting_of, Codes}
 use Rattle.qtt_erase.specs.Lean.{Abstraction, Lean, Leans, binders, abstractions}
 use Rattle.qtt_erase.specs.Erasure.{Slot, Slots, places, place_at}
@@ -16,27 +17,30 @@ abbrev mutual
 
   pub any_mentions : List ℕ → ℕ → Leans → Bool
   any_mentions ns i ∅ = false
-  any_mentions ns i (t ◂ ts) = mentions (first ns + i) t || any_mentions (rest ns) i ts
+  any_mentions ns i (t ◂ ts) = mentions (shift (first ns) i) t || any_mentions (rest ns) i ts
 
--- how many functions stand in a term
-abbrev pub own_count : Operator Abstraction → ℕ
-own_count (Operator.function a) = 1
-own_count _ = 0
+-- ---- numbers: the next free one, where the functions of a term have those from n on
+abbrev pub after_own : Operator Abstraction → ℕ → ℕ
+after_own (Operator.function a) n = suc n
+after_own _ n = n
 
 abbrev mutual
-  pub count : Lean → ℕ
-  count (Tree.var i) = 0
-  count (Tree.node F ts) = own_count F + counts ts
+  pub after : ℕ → Lean → ℕ
+  after n (Tree.var i) = n
+  after n (Tree.node F ts) = afters (after_own F n) ts
 
-  pub counts : Leans → ℕ
-  counts ∅ = 0
-  counts (t ◂ ts) = count t + counts ts
+  pub afters : ℕ → Leans → ℕ
+  afters n ∅ = n
+  afters n (t ◂ ts) = afters (after n t) ts
 
 -- the components behind so many
 abbrev pub skip : ℕ → Leans → Leans
 skip zero ts = ts
 skip (suc k) ∅ = ∅
 skip (suc k) (t ◂ ts) = skip k ts
+
+abbrev pub waiting : Operator Abstraction → ℕ
+waiting = waiting_of abstractions.waiting
 
 -- ---- frames: which of the variables in scope, the newest first, a function's body has
 abbrev pub arity : Abstraction → ℕ
@@ -57,15 +61,12 @@ captures i t (s ∷ Γ) = cond (mentions i t) Slot.filled Slot.gone ∷ captures
 abbrev pub captured : {A : Type 0} → Slots → (ℕ → ℕ) → Codes A → Codes A
 captured [] place vs = vs
 captured (Slot.gone ∷ Δ) place vs = captured Δ (λ i. place (suc i)) vs
-captured (Slot.blank ∷ Δ) place vs = captured Δ (λ i. place (suc i)) vs
+captured (Slot.blank ∷ Δ) place vs = captured Δ (λ i. place (suc i)) (Tree.var (place 0) ◂ vs)
 captured (Slot.filled ∷ Δ) place vs = captured Δ (λ i. place (suc i)) (Tree.var (place 0) ◂ vs)
 
 -- ---- the converted term in a frame, where its functions have the numbers from n on
 abbrev pub closure_at : ℕ → FlatTerms → FlatTerm
 closure_at n vs = Tree.node (Operator.function (record { number = n; captured = size vs })) vs
-
-abbrev pub closed_over : ℕ → Slots → Slots → FlatTerm
-closed_over n Δ Γ = closure_at n (captured Δ (place_at Γ) ∅)
 
 -- an operator that is no function
 abbrev pub other : Operator Abstraction → Operator Closure
@@ -82,24 +83,24 @@ other Operator.trap = Operator.trap
 other Operator.ty = Operator.ty
 other (Operator.tape n) = Operator.tape n
 
--- a function's own term at its number, else the components
+-- of a function a closure at its number, else the operator at its converted components
 abbrev pub converted : Operator Abstraction → ℕ → Lean → Slots → FlatTerms → FlatTerm
-converted (Operator.function a) n t Γ us = closed_over n (captures 0 t Γ) Γ
+converted (Operator.function a) n t Γ us = closure_at n (captured (captures 0 t Γ) (place_at Γ) ∅)
 converted F n t Γ us = Tree.node (other F) us
 
 abbrev mutual
   pub flat : ℕ → Slots → Lean → FlatTerm
   flat n Γ (Tree.var i) = Tree.var (place_at Γ i)
-  flat n Γ (Tree.node F ts) =
-      converted F n (Tree.node F ts) Γ (flats n (n + counts (skip (waiting_of abstractions.waiting F) ts)) (waiting_of abstractions.waiting F) (binders F) Γ ts)
+  flat n Γ (Tree.node F ts) = converted F n (Tree.node F ts) Γ (flats n (afters n (skip (waiting F) ts)) (waiting F) (binders F) Γ ts)
 
   -- the first k components have their functions from m on, the others from n on
   pub flats : ℕ → ℕ → ℕ → List ℕ → Slots → Leans → FlatTerms
   flats n m k ns Γ ∅ = ∅
-  flats n m zero ns Γ (t ◂ ts) = flat n (bound (first ns) Γ) t ◂ flats (n + count t) m zero (rest ns) Γ ts
-  flats n m (suc k) ns Γ (t ◂ ts) = flat m (bound (first ns) Γ) t ◂ flats n (m + count t) k (rest ns) Γ ts
+  flats n m zero ns Γ (t ◂ ts) = flat n (bound (first ns) Γ) t ◂ flats (after n t) m zero (rest ns) Γ ts
+  flats n m (suc k) ns Γ (t ◂ ts) = flat m (bound (first ns) Γ) t ◂ flats n (after m t) k (rest ns) Γ ts
 
 -- ---- the functions, where the first has number n
+-- the frame of the components
 abbrev pub frame : Operator Abstraction → Lean → Slots → Slots
 frame (Operator.function a) t Γ = captures 0 t Γ
 frame F t Γ = Γ
@@ -108,29 +109,27 @@ abbrev pub first_or_type : FlatTerms → FlatTerm
 first_or_type ∅ = Tree.node Operator.ty ∅
 first_or_type (u ◂ us) = u
 
--- a function's own entry, with its component converted
+-- of a function its own entry, whose body is its converted component
 abbrev pub own_function : Operator Abstraction → Lean → Slots → FlatTerms → List Function
-own_function (Operator.function a) t Γ us =
-    record { captured = places (captures 0 t Γ); takes = arity a; body = first_or_type us } ∷ []
+own_function (Operator.function a) t Γ us = record { captured = places (captures 0 t Γ); takes = arity a; body = first_or_type us } ∷ []
 own_function F t Γ us = []
 
 abbrev mutual
   pub functions : ℕ → Slots → Lean → List Function
   functions n Γ (Tree.var i) = []
   functions n Γ (Tree.node F ts) =
-      own_function F (Tree.node F ts) Γ
-          (flats (suc n) (suc n + counts (skip (waiting_of abstractions.waiting F) ts)) (waiting_of abstractions.waiting F) (binders F) (frame F (Tree.node F ts) Γ) ts)
-      ++ evaluated_functions (n + own_count F) (waiting_of abstractions.waiting F) (binders F) (frame F (Tree.node F ts) Γ) ts
-      ++ waiting_functions (n + own_count F + counts (skip (waiting_of abstractions.waiting F) ts)) (waiting_of abstractions.waiting F) (binders F) (frame F (Tree.node F ts) Γ) ts
+      own_function F (Tree.node F ts) Γ (flats (suc n) (suc n) (waiting F) (binders F) (frame F (Tree.node F ts) Γ) ts)
+      ++ evaluated_functions (after_own F n) (waiting F) (binders F) (frame F (Tree.node F ts) Γ) ts
+      ++ waiting_functions (afters (after_own F n) (skip (waiting F) ts)) (waiting F) (binders F) (frame F (Tree.node F ts) Γ) ts
 
   -- those of the components behind the first k
   pub evaluated_functions : ℕ → ℕ → List ℕ → Slots → Leans → List Function
   evaluated_functions n k ns Γ ∅ = []
-  evaluated_functions n zero ns Γ (t ◂ ts) = functions n (bound (first ns) Γ) t ++ evaluated_functions (n + count t) zero (rest ns) Γ ts
+  evaluated_functions n zero ns Γ (t ◂ ts) = functions n (bound (first ns) Γ) t ++ evaluated_functions (after n t) zero (rest ns) Γ ts
   evaluated_functions n (suc k) ns Γ (t ◂ ts) = evaluated_functions n k (rest ns) Γ ts
 
   -- those of the first k components
   pub waiting_functions : ℕ → ℕ → List ℕ → Slots → Leans → List Function
   waiting_functions n k ns Γ ∅ = []
   waiting_functions n zero ns Γ (t ◂ ts) = []
-  waiting_functions n (suc k) ns Γ (t ◂ ts) = functions n (bound (first ns) Γ) t ++ waiting_functions (n + count t) k (rest ns) Γ ts
+  waiting_functions n (suc k) ns Γ (t ◂ ts) = functions n (bound (first ns) Γ) t ++ waiting_functions (after n t) k (rest ns) Γ ts
