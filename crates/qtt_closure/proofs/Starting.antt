@@ -1,10 +1,10 @@
 -- A converted term stands for its term.
-use Rattle.std.proofs.Common.{◌≡◌, ℕ, zero, suc, ◌+◌, ◌<◌, List, [], ◌∷◌, ◌++◌, Bool, true, false, ◌||◌, cond, eqb, Some, refl, sym, ◌∙◌, ap, subst, arith, ◌⊎◌, inl, inr}
+use Rattle.std.proofs.Common.{◌≡◌, ℕ, zero, suc, ◌+◌, ◌<◌, List, [], ◌∷◌, ◌++◌, Bool, true, false, ◌||◌, cond, Some, refl, sym, ◌∙◌, ap, subst, arith, ◌⊎◌, inl, inr}
 use mathlib.Core.Path.{fun_ext, ap₂}
 use Rattle.std.proofs.lemmas.Bool.{eq-eqb, eqb-true}
 use Rattle.qtt_term.specs.Term.{first, rest}
 use Rattle.qtt_term.specs.Substitution.{shift, lift_ren, lifts_ren}
-use Rattle.qtt_erase.specs.Binding.{Tree, Trees, ∅, ◌◂◌, ◌◂◂◌, size, cons, push, ren, rens, lift, lifts, sub, subs, Below, AllBelow}
+use Rattle.qtt_erase.specs.Binding.{Tree, ∅, ◌◂◌, ◌◂◂◌, size, push, ren, rens, lift, lifts, sub, subs, Below, AllBelow}
 use Rattle.qtt_erase.specs.Operator.{Operator, Codes}
 use Rattle.qtt_erase.specs.Lean.{Abstraction, Lean, Leans}
 use Rattle.qtt_erase.specs.Lean as lean
@@ -12,8 +12,8 @@ use Rattle.qtt_erase.specs.Erasure.{Slot, Slots, slot_at, place_at, places}
 use Rattle.qtt_erase.specs.ErasedUse.{IsFilled}
 use Rattle.qtt_erase.proofs.Bindings.{ren-is-sub, sub-ren, sub-var, push-append}
 use Rattle.qtt_closure.specs.Flat.{Closure, FlatTerm, FlatTerms, Function, Program}
-use Rattle.qtt_closure.specs.Conversion.{mentions, any_mentions, after_own, after, afters, skip, waiting, arity, bound, captures, captured, flat, flats, functions, evaluated_functions, waiting_functions}
-use Rattle.qtt_closure.specs.StandsFor.{function_of, StandsFor, AllStandFor, OneBody, Formed, AllFormed, Holds, IsHeld}
+use Rattle.qtt_closure.specs.Conversion.{mentions, any_mentions, after, afters, skip, waiting, arity, bound, captures, captured, flat, flats, functions, evaluated_functions, waiting_functions}
+use Rattle.qtt_closure.specs.StandsFor.{function_of, StandsFor, AllStandFor, Formed, AllFormed, Holds, IsHeld}
 
 -- ---- numbers
 abbrev pub advance : ℕ → List Function → ℕ
@@ -66,10 +66,10 @@ mutual
   number-after (Tree.node (Operator.function a) ts) n Γ =
       let Δ : Slots = captures 0 (Tree.node (Operator.function a) ts) Γ in
       both-after ts (suc n) 1 (lean.body_binders a) Δ (evaluated-after ts (suc n) 1 (lean.body_binders a) Δ)
-          (waiting-after ts (afters (suc n) (skip 1 ts)) 1 (lean.body_binders a) Δ)
+      (waiting-after ts (afters (suc n) (skip 1 ts)) 1 (lean.body_binders a) Δ)
   number-after (Tree.node F ts) n Γ =
       both-after ts n (waiting F) (lean.binders F) Γ (evaluated-after ts n (waiting F) (lean.binders F) Γ)
-          (waiting-after ts (afters n (skip (waiting F) ts)) (waiting F) (lean.binders F) Γ)
+      (waiting-after ts (afters n (skip (waiting F) ts)) (waiting F) (lean.binders F) Γ)
 
   evaluated-after : (ts : Leans) (n k : ℕ) (ns : List ℕ) (Γ : Slots) → advance n (evaluated_functions n k ns Γ ts) ≡ afters n (skip k ts)
   evaluated-after ∅ n zero ns Γ = refl
@@ -297,13 +297,13 @@ module _ (P : Program) where
   recovered t Γ h =
       ren-is-sub lean.binders (place_at Γ) t
       ∙ sym (sub-ren lean.binders t (push (captured (captures 0 t Γ) (place_at Γ) ∅) Tree.var) (place_at (captures 0 t Γ))
-          ∙ sub-mentioned t _ _ (λ i e. captured-pushed (captures 0 t Γ) (place_at Γ) Tree.var i (captured-mentioned t Γ h i e)))
+      ∙ sub-mentioned t _ _ (λ i e. captured-pushed (captures 0 t Γ) (place_at Γ) Tree.var i (captured-mentioned t Γ h i e)))
 
   captured-below : (t : Lean) (Γ : Slots) → Scoped Γ t →
       Below lean.binders (size (captured {A = Abstraction} (captures 0 t Γ) (place_at Γ) ∅)) (ren lean.binders (place_at (captures 0 t Γ)) t)
   captured-below t Γ h =
       ren-below t (place_at (captures 0 t Γ)) _ (λ i e. subst (λ n. place_at (captures 0 t Γ) i < n) (sym (captured-places Abstraction (captures 0 t Γ) (place_at Γ)))
-          (place-below (captures 0 t Γ) i (captured-mentioned t Γ h i e)))
+      (place-below (captures 0 t Γ) i (captured-mentioned t Γ h i e)))
 
   -- a function of a body that stands for its converted body
   function-stands : (a : Abstraction) (b : Lean) (n : ℕ) (Γ : Slots) (u : FlatTerm) → Scoped Γ (function_of a b) →
@@ -313,11 +313,11 @@ module _ (P : Program) where
   function-stands Abstraction.fun b n Γ u h p s =
       let Δ : Slots = captures 0 (function_of Abstraction.fun b) Γ in
       StandsFor.closure p (captured-places Closure Δ (place_at Γ) ∙ sym (captured-places Abstraction Δ (place_at Γ))) (sym (captured-places Abstraction Δ (place_at Γ))) refl s
-          (captured-below (function_of Abstraction.fun b) Γ h) (captured-stand Δ (place_at Γ) ∅ ∅ AllStandFor.none) (recovered (function_of Abstraction.fun b) Γ h)
+      (captured-below (function_of Abstraction.fun b) Γ h) (captured-stand Δ (place_at Γ) ∅ ∅ AllStandFor.none) (recovered (function_of Abstraction.fun b) Γ h)
   function-stands Abstraction.thunk b n Γ u h p s =
       let Δ : Slots = captures 0 (function_of Abstraction.thunk b) Γ in
       StandsFor.closure p (captured-places Closure Δ (place_at Γ) ∙ sym (captured-places Abstraction Δ (place_at Γ))) (sym (captured-places Abstraction Δ (place_at Γ))) refl s
-          (captured-below (function_of Abstraction.thunk b) Γ h) (captured-stand Δ (place_at Γ) ∅ ∅ AllStandFor.none) (recovered (function_of Abstraction.thunk b) Γ h)
+      (captured-below (function_of Abstraction.thunk b) Γ h) (captured-stand Δ (place_at Γ) ∅ ∅ AllStandFor.none) (recovered (function_of Abstraction.thunk b) Γ h)
 
   -- a body in the frame of its function
   in-frame : (k : ℕ) (Δ : Slots) (b : Lean) (u : FlatTerm) → StandsFor P (ren lean.binders (place_at (bound k Δ)) b) u →
@@ -338,12 +338,12 @@ module _ (P : Program) where
         let t : Lean = function_of Abstraction.fun b in
         let Δ : Slots = captures 0 t Γ in
         function-stands Abstraction.fun b n Γ (flat (suc n) (bound 1 Δ) b) s h.0
-            (in-frame 1 Δ b _ (converted-stands b (suc n) (bound 1 Δ) f.1.0 (scoped-first Δ (1 ∷ []) b ∅ (captured-mentioned t Γ s)) (held-after P b (suc n) (bound 1 Δ) [] h.1).0))
+        (in-frame 1 Δ b _ (converted-stands b (suc n) (bound 1 Δ) f.1.0 (scoped-first Δ (1 ∷ []) b ∅ (captured-mentioned t Γ s)) (held-after P b (suc n) (bound 1 Δ) [] h.1).0))
     converted-stands (Tree.node (Operator.function Abstraction.thunk) (b ◂ ∅)) n Γ f s h =
         let t : Lean = function_of Abstraction.thunk b in
         let Δ : Slots = captures 0 t Γ in
         function-stands Abstraction.thunk b n Γ (flat (suc n) (bound 0 Δ) b) s h.0
-            (in-frame 0 Δ b _ (converted-stands b (suc n) (bound 0 Δ) f.1.0 (scoped-first Δ (0 ∷ []) b ∅ (captured-mentioned t Γ s)) (held-after P b (suc n) (bound 0 Δ) [] h.1).0))
+        (in-frame 0 Δ b _ (converted-stands b (suc n) (bound 0 Δ) f.1.0 (scoped-first Δ (0 ∷ []) b ∅ (captured-mentioned t Γ s)) (held-after P b (suc n) (bound 0 Δ) [] h.1).0))
     converted-stands (Tree.node F ts) n Γ f s h =
         let k = held-evaluated P ts n (waiting F) (lean.binders F) Γ (waiting_functions (afters n (skip (waiting F) ts)) (waiting F) (lean.binders F) Γ ts) h in
         StandsFor.operator tt (components-stand ts n (afters n (skip (waiting F) ts)) (waiting F) (lean.binders F) Γ f.1 s k.0 k.1)
@@ -355,11 +355,11 @@ module _ (P : Program) where
     components-stand (t ◂ ts) n m zero ns Γ f s h g =
         let p = held-after P t n (bound (first ns) Γ) (evaluated_functions (after n t) zero (rest ns) Γ ts) h in
         AllStandFor.more (in-frame (first ns) Γ t _ (converted-stands t n (bound (first ns) Γ) f.0 (scoped-first Γ ns t ts s) p.0))
-            (components-stand ts (after n t) m zero (rest ns) Γ f.1 (scoped-rest Γ ns t ts s) p.1 (nothing-waits ts m (rest ns) Γ))
+        (components-stand ts (after n t) m zero (rest ns) Γ f.1 (scoped-rest Γ ns t ts s) p.1 (nothing-waits ts m (rest ns) Γ))
     components-stand (t ◂ ts) n m (suc k) ns Γ f s h g =
         let p = held-after P t m (bound (first ns) Γ) (waiting_functions (after m t) k (rest ns) Γ ts) g in
         AllStandFor.more (in-frame (first ns) Γ t _ (converted-stands t m (bound (first ns) Γ) f.0 (scoped-first Γ ns t ts s) p.0))
-            (components-stand ts n (after m t) k (rest ns) Γ f.1 (scoped-rest Γ ns t ts s) h p.1)
+        (components-stand ts n (after m t) k (rest ns) Γ f.1 (scoped-rest Γ ns t ts s) h p.1)
 
   pub stands-for-its-term : (n : ℕ) (t : Lean) → IsHeld P n t → StandsFor P t (flat n [] t)
   stands-for-its-term n t h =
@@ -367,5 +367,6 @@ module _ (P : Program) where
     where
       scoped : Scoped [] t
       scoped i e = let p = mentioned-below t 0 i h.closed e in absurd (omega arith)
+
       unmoved : ren lean.binders (place_at []) t ≡ t
       unmoved = ren-is-sub lean.binders (place_at []) t ∙ sub-mentioned t _ Tree.var (λ i e. absurd (scoped i e)) ∙ sub-var lean.binders t

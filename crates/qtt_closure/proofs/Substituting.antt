@@ -1,9 +1,8 @@
 -- Terms that stand for one another still do so after substitution.
-use Rattle.std.proofs.Common.{◌≡◌, ℕ, zero, suc, ◌<◌, Some, List, [], ◌∷◌, refl, sym, ◌∙◌, ap, subst}
-use mathlib.Core.Path.{fun_ext}
+use Rattle.std.proofs.Common.{◌≡◌, ℕ, zero, suc, ◌<◌, Some, List, [], refl, sym, ◌∙◌, ap, subst}
 use Rattle.qtt_term.specs.Term.{first, rest}
 use Rattle.qtt_term.specs.Substitution.{lifts_ren}
-use Rattle.qtt_erase.specs.Binding.{Tree, ∅, ◌◂◌, ◌◂◂◌, size, cons, push, ren, rens, lift, lifts, sub, subs, Below}
+use Rattle.qtt_erase.specs.Binding.{Tree, size, cons, push, ren, rens, lift, lifts, sub, subs, Below}
 use Rattle.qtt_erase.specs.Operator.{Operator}
 use Rattle.qtt_erase.specs.Lean.{Abstraction, Lean, Leans}
 use Rattle.qtt_erase.specs.Lean as lean
@@ -57,11 +56,11 @@ module _ (P : Program) where
     stands-ren StandsFor.variable ρ = StandsFor.variable
     stands-ren (StandsFor.operator {F = F} {ts = ts} {us = us} o h) ρ =
         StandsFor.operator o
-            (subst (λ ns. AllStandFor P (rens lean.binders (lean.binders F) ρ ts) (rens flat.binders ns ρ us)) (sym (same-binders F o)) (all-ren h (lean.binders F) ρ))
+        (subst (λ ns. AllStandFor P (rens lean.binders (lean.binders F) ρ ts) (rens flat.binders ns ρ us)) (sym (same-binders F o)) (all-ren h (lean.binders F) ρ))
     stands-ren (StandsFor.closure {a = a} {b = b} {t = t} {ls = ls} {c = c} {vs = vs} p n k s r w h e) ρ =
         subst (λ x. StandsFor P x (Tree.node (Operator.function c) (rens flat.binders [] ρ vs))) (sym (ap (ren lean.binders ρ) e ∙ ren-is-sub lean.binders ρ (sub lean.binders (push ls Tree.var) (function_of a b))))
-            (closed ls (λ i. Tree.var (ρ i)) p n k s r w
-                (subst (λ xs. AllStandFor P xs (rens flat.binders [] ρ vs)) (rens-are-subs lean.binders ls [] ρ) (all-ren h [] ρ)))
+        (closed ls (λ i. Tree.var (ρ i)) p n k s r w
+        (subst (λ xs. AllStandFor P xs (rens flat.binders [] ρ vs)) (rens-are-subs lean.binders ls [] ρ) (all-ren h [] ρ)))
 
     all-ren : {ts : Leans} {us : FlatTerms} → AllStandFor P ts us → (ns : List ℕ) (ρ : ℕ → ℕ) →
         AllStandFor P (rens lean.binders ns ρ ts) (rens flat.binders ns ρ us)
@@ -85,10 +84,10 @@ module _ (P : Program) where
     stands-sub (StandsFor.variable {i = i}) σ τ g = g i
     stands-sub (StandsFor.operator {F = F} {ts = ts} {us = us} o h) σ τ g =
         StandsFor.operator o
-            (subst (λ ns. AllStandFor P (subs lean.binders (lean.binders F) σ ts) (subs flat.binders ns τ us)) (sym (same-binders F o)) (all-sub h (lean.binders F) σ τ g))
+        (subst (λ ns. AllStandFor P (subs lean.binders (lean.binders F) σ ts) (subs flat.binders ns τ us)) (sym (same-binders F o)) (all-sub h (lean.binders F) σ τ g))
     stands-sub (StandsFor.closure {ls = ls} {c = c} {vs = vs} p n k s r w h e) σ τ g =
         subst (λ x. StandsFor P x (Tree.node (Operator.function c) (subs flat.binders [] τ vs))) (sym (ap (sub lean.binders σ) e))
-            (closed ls σ p n k s r w (all-sub h [] σ τ g))
+        (closed ls σ p n k s r w (all-sub h [] σ τ g))
 
     all-sub : {ts : Leans} {us : FlatTerms} → AllStandFor P ts us → (ns : List ℕ) (σ : ℕ → Lean) (τ : ℕ → FlatTerm) → Carries σ τ →
         AllStandFor P (subs lean.binders ns σ ts) (subs flat.binders ns τ us)

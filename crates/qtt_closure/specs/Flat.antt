@@ -1,6 +1,6 @@
 -- Closure-converted terms. A function stands in a program under its number; in a term stands a closure, which is that number with the
 -- captured values. The variables of a function's body are the captured ones, the outermost first, and then the argument if there is one.
-use Rattle.std.specs.Prelude.{ℕ, ◌+◌, List, [], ◌∷◌, Option, Some, None, cond, eqb, ◌&&◌}
+use Rattle.std.specs.Prelude.{ℕ, ◌+◌, List, [], Option, Some, None, cond, eqb, ◌&&◌}
 use Rattle.qtt_term.specs.Contraction.{chain}
 use Rattle.qtt_erase.specs.Binding.{Tree, ∅, ◌◂◌, ◌◂◂◌, size, push, sub}
 use Rattle.qtt_erase.specs.Operator.{Operator, binders_of, Code, Codes}

@@ -1,14 +1,12 @@
 -- Worked examples of conversion.
-use Rattle.std.specs.Prelude.{◌≡◌, pos, List, [], ◌∷◌, Option, Some, None}
-use Rattle.qtt_prims.specs.declared.prim.Primitive.TheVariants as prim
-use Rattle.qtt_prims.specs.declared.lit.Lit.TheVariants as literal
+use Rattle.std.specs.Prelude.{◌≡◌, List, [], ◌∷◌, Option, Some, None}
 use Rattle.qtt_term.specs.Programs.{item, identity}
 use Rattle.qtt_erase.specs.Binding.{Tree, ∅, ◌◂◌}
-use Rattle.qtt_erase.specs.Operator.{Operator, App, Force, Def, Con, Literal, Call}
+use Rattle.qtt_erase.specs.Operator.{Operator, App, Force, Def, Con}
 use Rattle.qtt_erase.specs.Lean.{Lean}
 use Rattle.qtt_erase.specs.Erasure.{erased_bodies}
 use Rattle.qtt_erase.specs.Programs.{vectors}
-use Rattle.qtt_closure.specs.Flat.{FlatTerm, FlatTerms, Function}
+use Rattle.qtt_closure.specs.Flat.{Function}
 use Rattle.qtt_closure.specs.Conversion.{closure_at, flat, functions}
 
 -- the functions of an erased body, its own as the first
