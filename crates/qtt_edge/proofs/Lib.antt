@@ -1,3 +1,4 @@
+pub mod FlagLemmas
 pub mod LineLemmas
 pub mod SourceLemmas
 pub mod TapeLemmas

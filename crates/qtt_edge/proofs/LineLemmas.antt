@@ -1,5 +1,5 @@
 -- Lines of a list of bytes, found from the front on.
-use Rattle.std.proofs.Common.{◌≡◌, ◌≢◌, ℕ, zero, suc, ◌+◌, ◌<◌, ◌≤◌, ◌==◌, Bool, true, false, cond, List, [], ◌∷◌, ◌++◌, length, take, drop, get_or, Option, Some, None, Result, Ok, Err, refl, sym, ap, ◌∙◌, subst, append_assoc, add-one, arith, drop-cons, length-append}
+use Rattle.std.proofs.Common.{◌≡◌, ◌≢◌, ℕ, suc, ◌+◌, ◌<◌, ◌≤◌, ◌==◌, Bool, true, false, cond, List, [], ◌∷◌, ◌++◌, length, take, drop, get_or, Option, Some, None, Result, Ok, Err, refl, sym, ap, ◌∙◌, subst, append_assoc, add-one, arith, drop-cons, length-append}
 use Rattle.std.proofs.lemmas.List.{take-append-drop, append-nil, length-take}
 use Rattle.std.proofs.lemmas.Bool.{eqb-true, le-ltb, lt-ltb}
 use Rattle.std.proofs.lemmas.Str.{IsUtf8-from_is_utf8, is_utf8-from_IsUtf8}
@@ -11,7 +11,6 @@ use Rattle.qtt_edge.specs.LineCutter.{all_told, Cuts, CutsAll, CutsFront, CutsLa
 use Rattle.qtt_edge.specs.declared.line_cutter.Next.{Next}
 use Rattle.qtt_edge.specs.declared.line_cutter.Next.TheVariants.{Line, End, TooLong, NotUtf8}
 use Rattle.qtt_edge.specs.declared.line_cutter.LineError.{LineError}
-use Rattle.qtt_edge.specs.declared.line_cutter.LineError.TheVariants.{Fault, Memory}
 
 line_step : (ends : Bool) (b : ℕ) (xs ys : List ℕ) → (line_of xs ≡ xs → line_of (xs ++ ys) ≡ xs ++ line_of ys) → cond ends [] (b ∷ line_of xs) ≡ b ∷ xs → cond ends [] (b ∷ line_of (xs ++ ys)) ≡ b ∷ (xs ++ line_of ys)
 line_step true b xs ys rest whole = cc

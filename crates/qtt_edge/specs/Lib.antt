@@ -2,6 +2,7 @@ pub mod ByteSink
 pub mod ByteSource
 pub mod Counts
 pub mod Examples
+pub mod FileTapes
 pub mod LineCutter
 pub mod MapVault
 pub mod Path

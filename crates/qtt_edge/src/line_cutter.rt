@@ -1,6 +1,6 @@
 //! Lines of a source's bytes.
 
-ghost use Rattle.std.specs.Prelude.{◌≡◌, ◌+◌, ◌≤◌, [], length, take, drop, vec_len, is_some, IfOk, OnErr, IsErrOf, MatchOption};
+ghost use Rattle.std.specs.Prelude.{◌≡◌, ◌+◌, ◌≤◌, [], length, take, drop, vec_len, is_some, IfOk, OnOk, OnErr, IsErrOf, MatchOption};
 ghost use Rattle.qtt_prims.specs.Lines.{line_of};
 ghost use Rattle.qtt_edge.specs.Counts.{Counts};
 ghost use Rattle.qtt_edge.specs.Source.{IsAtEnd};
@@ -85,7 +85,8 @@ fn next_line<S: Source>(
     held: &mut Vec<u8>,
     source: &mut S,
 ) -> Result<Next, LineError>
-    ensures cuts { Cuts (all_told held.old.items (S.content source.old)) (all_told held.new.items (S.content source.new)) result }
+    ensures cuts { let before = all_told held.old.items (S.content source.old) in
+        Cuts before (all_told held.new.items (S.content source.new)) result }
     ensures end { result ≡ Ok Next.End → held.old.items ≡ [] }
     ensures ended { Counts (S.ends source.old) (S.ends source.new) (result ≡ Ok Next.End) }
     ensures failed { Counts (S.faults source.old) (S.faults source.new) (IsErrOf result LineError.Fault) }
@@ -123,7 +124,8 @@ fn line_end(held: &[u8], from: usize) -> Option<usize>
 fn cut(alloc: Global, held: &mut Vec<u8>, len: usize, behind: usize) -> Result<Next, LineError>
     requires line { len ≤ behind }
     requires within { behind ≤ vec_len held.old }
-    ensures { CutsFront (take len held.old.items) (drop behind held.old.items) held.old.items held.new.items result }
+    ensures { let bytes = held.old.items in
+        CutsFront (take len bytes) (drop behind bytes) bytes held.new.items result }
 {
     if len > MAX_LINE {
         return Ok(Next::TooLong);
@@ -151,8 +153,9 @@ fn last(alloc: Global, held: &mut Vec<u8>) -> Result<Next, LineError>
 
 /// Pulls bytes behind those that are held, and says how many: 0 at the end of the source.
 fn fill<S: Source>(held: &mut Vec<u8>, source: &mut S) -> Result<usize, LineError>
-    ensures all { IfOk result (λ _. all_told held.new.items (S.content source.new) ≡ all_told held.old.items (S.content source.old)) }
-    ensures front { IfOk result (λ _. take (length held.old.items) held.new.items ≡ held.old.items) }
+    ensures all { let before = all_told held.old.items (S.content source.old) in
+        OnOk result (all_told held.new.items (S.content source.new) ≡ before) }
+    ensures front { OnOk result (take (length held.old.items) held.new.items ≡ held.old.items) }
     ensures count { IfOk result (λ count. length held.new.items ≡ length held.old.items + count) }
     ensures end { result ≡ Ok 0 → IsAtEnd (S.content source.new) }
     ensures told { OnErr result (is_some (S.content source.new) ≡ is_some (S.content source.old)) }

@@ -1,10 +1,10 @@
 //! Tapes: files that a program opens, writes line by line and closes.
 
-ghost use Rattle.std.specs.Prelude.{◌≡◌, ◌+◌, ◌-◌, ◌^◌, ◌<◌, ◌++◌, ◌∷◌, [], ℕ, List, Option, length, option_map, IfOk, IfSome, OnOk, OnErr, IsErrOf};
+ghost use Rattle.std.specs.Prelude.{◌≡◌, ℕ, List, Option, IfOk, OnOk, OnErr, IsErrOf};
 ghost use Rattle.std.specs.Option.{ForSome};
-ghost use Rattle.qtt_prims.specs.Tapes.{Taped, new_tape, with_line, shut, changed};
+ghost use Rattle.qtt_prims.specs.Tapes.{Taped};
 ghost use Rattle.qtt_edge.specs.Counts.{Counts};
-ghost use Rattle.qtt_edge.specs.Tapes.{IsOpenAt, KeepsOthers};
+ghost use Rattle.qtt_edge.specs.Tapes.{HasRoom, IsNextNumber, IsOpenAt, Opens, AddsLine, Closes, KeepsOthers};
 
 use thiserror::Error;
 
@@ -24,23 +24,23 @@ pub trait Tapes {
 
     /// Opens a tape, and answers its number.
     fn create(&mut self, name: &str) -> Result<u32, TapeError>
-        requires { ForSome (tapes self.old) (λ all. length all < 2 ^ 32 - 1) }
-        ensures number { IfOk result (λ number. IfSome (tapes self.old) (λ all. number ≡ length all)) }
-        ensures ok { OnOk result (tapes self.new ≡ option_map (λ all. all ++ new_tape name.now ∷ []) (tapes self.old)) }
+        requires { HasRoom (tapes self.old) }
+        ensures number { IfOk result (IsNextNumber (tapes self.old)) }
+        ensures ok { OnOk result (Opens (tapes self.old) (tapes self.new) name.now) }
         ensures err { OnErr result (tapes self.new ≡ tapes self.old) }
         ensures failed { Counts (faults self.old) (faults self.new) (IsErrOf result TapeError.Failed) };
 
     /// Adds a line to an open tape.
     fn append(&mut self, number: u32, text: &str) -> Result<(), TapeError>
         requires { ForSome (tapes self.old) (IsOpenAt number) }
-        ensures ok { OnOk result (tapes self.new ≡ option_map (changed number (with_line text.now)) (tapes self.old)) }
+        ensures ok { OnOk result (AddsLine (tapes self.old) (tapes self.new) number text.now) }
         ensures err { OnErr result (KeepsOthers number (tapes self.old) (tapes self.new)) }
         ensures failed { Counts (faults self.old) (faults self.new) (IsErrOf result TapeError.Failed) };
 
     /// Closes an open tape.
     fn close(&mut self, number: u32) -> Result<(), TapeError>
         requires { ForSome (tapes self.old) (IsOpenAt number) }
-        ensures ok { OnOk result (tapes self.new ≡ option_map (changed number shut) (tapes self.old)) }
+        ensures ok { OnOk result (Closes (tapes self.old) (tapes self.new) number) }
         ensures err { OnErr result (KeepsOthers number (tapes self.old) (tapes self.new)) }
         ensures failed { Counts (faults self.old) (faults self.new) (IsErrOf result TapeError.Failed) };
 }

@@ -52,7 +52,8 @@ impl<P: FailurePlan> Sink for ByteSink<P> {
 
         // A call fails only where the plan says so, and has then taken as many bytes as it says.
         ensures unplanned { IfNone (P.upcoming self.old.plan) (result ≢ Err SinkError.Failed) }
-        ensures planned { IfSome (P.upcoming self.old.plan) (λ count. IsErrOf result SinkError.Failed → Adds (told_bytes self.old) (told_bytes self.new) (take count bytes.now)) }
+        ensures planned { IfSome (P.upcoming self.old.plan) (λ count. IsErrOf result SinkError.Failed
+            → Adds (told_bytes self.old) (told_bytes self.new) (take count bytes.now)) }
         ensures no_success { OnOk result (IsNone (P.upcoming self.old.plan)) }
     {
         match self.plan.next() {

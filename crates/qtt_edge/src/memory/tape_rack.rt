@@ -1,10 +1,10 @@
 //! Tapes in memory.
 
-ghost use Rattle.std.specs.Prelude.{◌≡◌, ◌≢◌, ◌+◌, ◌-◌, ◌^◌, ◌<◌, ◌++◌, ◌∷◌, ◌↔◌, [], length, option_map, IfOk, IfSome, IsSome, OnOk, OnErr, IsErrOf};
+ghost use Rattle.std.specs.Prelude.{◌≡◌, ◌↔◌, [], IfOk, IsSome, OnOk, OnErr, IsErrOf};
 ghost use Rattle.std.specs.Option.{ForSome};
-ghost use Rattle.qtt_prims.specs.Tapes.{new_tape, with_line, shut, changed};
+ghost use Rattle.qtt_prims.specs.Tapes.{new_tape, with_line};
 ghost use Rattle.qtt_edge.specs.Counts.{Counts};
-ghost use Rattle.qtt_edge.specs.Tapes.{IsOpenAt, KeepsOthers};
+ghost use Rattle.qtt_edge.specs.Tapes.{HasRoom, IsNextNumber, IsOpenAt, Opens, AddsLine, Closes, KeepsOthers};
 ghost use Rattle.qtt_edge.specs.TapeRack.{taped, told_tapes};
 
 use crate::plan::{FailingCalls, FailurePlan, NeverFails};
@@ -60,9 +60,9 @@ impl<P: FailurePlan> Tapes for TapeRack<P> {
     ghost faults = { λ s. P.faults s.plan };
 
     fn create(&mut self, name: &str) -> Result<u32, TapeError>
-        requires { ForSome (told_tapes self.old) (λ all. length all < 2 ^ 32 - 1) }
-        ensures number { IfOk result (λ number. IfSome (told_tapes self.old) (λ all. number ≡ length all)) }
-        ensures ok { OnOk result (told_tapes self.new ≡ option_map (λ all. all ++ new_tape name.now ∷ []) (told_tapes self.old)) }
+        requires { HasRoom (told_tapes self.old) }
+        ensures number { IfOk result (IsNextNumber (told_tapes self.old)) }
+        ensures ok { OnOk result (Opens (told_tapes self.old) (told_tapes self.new) name.now) }
         ensures err { OnErr result (told_tapes self.new ≡ told_tapes self.old) }
         ensures failed { Counts (P.faults self.old.plan) (P.faults self.new.plan) (IsErrOf result TapeError.Failed) }
         ensures planned { IsErrOf result TapeError.Failed ↔ IsSome (P.upcoming self.old.plan) }
@@ -82,7 +82,7 @@ impl<P: FailurePlan> Tapes for TapeRack<P> {
 
     fn append(&mut self, number: u32, text: &str) -> Result<(), TapeError>
         requires { ForSome (told_tapes self.old) (IsOpenAt number) }
-        ensures ok { OnOk result (told_tapes self.new ≡ option_map (changed number (with_line text.now)) (told_tapes self.old)) }
+        ensures ok { OnOk result (AddsLine (told_tapes self.old) (told_tapes self.new) number text.now) }
         ensures err { OnErr result (KeepsOthers number (told_tapes self.old) (told_tapes self.new)) }
         ensures failed { Counts (P.faults self.old.plan) (P.faults self.new.plan) (IsErrOf result TapeError.Failed) }
 
@@ -102,7 +102,7 @@ impl<P: FailurePlan> Tapes for TapeRack<P> {
 
     fn close(&mut self, number: u32) -> Result<(), TapeError>
         requires { ForSome (told_tapes self.old) (IsOpenAt number) }
-        ensures ok { OnOk result (told_tapes self.new ≡ option_map (changed number shut) (told_tapes self.old)) }
+        ensures ok { OnOk result (Closes (told_tapes self.old) (told_tapes self.new) number) }
         ensures err { OnErr result (KeepsOthers number (told_tapes self.old) (told_tapes self.new)) }
         ensures failed { Counts (P.faults self.old.plan) (P.faults self.new.plan) (IsErrOf result TapeError.Failed) }
 
