@@ -1,5 +1,5 @@
 -- Several blocks that close at one place.
-use Rattle.std.proofs.Common.{◌≡◌, ℕ, zero, suc, ◌+◌, ◌-◌, ◌<◌, ◌≤◌, List, [], ◌∷◌, ◌++◌, replicate, refl, sym, ap, ◌∙◌, arith}
+use Rattle.std.proofs.Common.{◌≡◌, ℕ, suc, ◌+◌, ◌-◌, ◌<◌, ◌≤◌, List, [], ◌∷◌, ◌++◌, replicate, sym, ap, ◌∙◌, arith}
 use Rattle.qtt_layout.specs.Written.{written, Adds}
 use Rattle.qtt_layout.specs.declared.laid.Laid.{Laid}
 use Rattle.qtt_layout.specs.declared.marks.Marks.{Marks}

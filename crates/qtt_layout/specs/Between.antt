@@ -1,11 +1,10 @@
 -- What the code keeps between two tokens, and what it does at a token.
-use Rattle.std.specs.Prelude.{◌≡◌, ℕ, Bool, true, false, List, ◌∷◌, ◌++◌, Option, Some, None}
+use Rattle.std.specs.Prelude.{◌≡◌, Bool, true, false, List, ◌++◌, Option, Some, None}
 use Rattle.qtt_base.specs.declared.place.Span.{Span}
 use Rattle.qtt_lexer.specs.declared.token.Token.{Token}
 use Rattle.qtt_layout.specs.Rules.{State, Put, added, behind, next_at}
 use Rattle.qtt_layout.specs.Written.{Adds}
 use Rattle.qtt_layout.specs.declared.block.Block.{Block}
-use Rattle.qtt_layout.specs.declared.laid.Laid.{Laid}
 use Rattle.qtt_layout.specs.declared.marks.Marks.{Marks}
 use Rattle.qtt_layout.specs.declared.between.Between.{Between}
 use Rattle.qtt_layout.specs.declared.role.Role.{Role}

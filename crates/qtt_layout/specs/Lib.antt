@@ -2,3 +2,4 @@ pub mod Marks
 pub mod Rules
 pub mod Written
 pub mod Between
+pub mod Answer

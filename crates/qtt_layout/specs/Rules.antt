@@ -1,5 +1,5 @@
 -- The marks of tokens, by the columns at which they stand.
-use Rattle.std.specs.Prelude.{◌≡◌, ℕ, zero, suc, ◌+◌, ◌-◌, ◌==◌, ◌&&◌, nat_lt, nat_le, if◌then◌else◌, Bool, true, false, List, [], ◌∷◌, ◌++◌, length, take, replicate, Option, Some, None, slice_get, Result, Ok, Err}
+use Rattle.std.specs.Prelude.{ℕ, zero, suc, ◌+◌, ◌-◌, ◌==◌, ◌&&◌, nat_lt, nat_le, if◌then◌else◌, Bool, true, false, List, [], ◌∷◌, ◌++◌, length, take, replicate, Option, Some, None, slice_get, Result, Ok, Err}
 use Rattle.std.specs.List.{suffix_len}
 use Rattle.qtt_base.specs.declared.place.Span.{Span}
 use Rattle.qtt_lexer.specs.Lexed.{Mistake}
@@ -76,14 +76,19 @@ aligned span marks blocks (Some block) = Some (record { marks = marks ++ next_at
 abbrev pub right_of : ℕ → List Block → ℕ
 right_of col blocks = suffix_len (λ block. nat_lt col block.col) blocks
 
+-- at the first token of a line that opens no block
+abbrev pub aligned_at : State → Span → Option Put
+aligned_at s span =
+    let n = right_of span.col s.blocks in
+    let left = without_newest n s.blocks in
+    aligned span (empty_block s span ++ closes n span) left (newest left)
+
 -- by the column of a token
 abbrev pub by_column : State → Token → Option Put
 by_column s t =
     if opens s t then Some (record { marks = Open t.span ∷ []; blocks = s.blocks ++ record { col = t.span.col; brackets = s.brackets } ∷ [] })
     else (if t.span.line == s.line then Some (record { marks = empty_block s t.span; blocks = s.blocks })
-    else (let n = right_of t.span.col s.blocks in
-          let left = without_newest n s.blocks in
-          aligned t.span (empty_block s t.span ++ closes n t.span) left (newest left)))
+    else aligned_at s t.span)
 
 -- how many blocks were opened since the newest of so many brackets: those at whose opening all of them were open
 abbrev pub since_bracket : ℕ → List Block → ℕ
@@ -153,13 +158,3 @@ counted_of (Err m) = Err m
 -- the tokens with the marks that count, or the first token left of the outermost block
 unfoldable pub laid : List Token → Result (List Laid) Mistake
 laid tokens = counted_of (put_from start tokens)
-
--- the last token, and no other, is End
-abbrev pub is_end : Role → Bool
-is_end role.End = true
-is_end _ = false
-
-abbrev pub ends_once : List Token → Bool
-ends_once [] = false
-ends_once (t ∷ []) = is_end (role_of t.kind)
-ends_once (t ∷ u ∷ ts) = (if is_end (role_of t.kind) then false else true) && ends_once (u ∷ ts)

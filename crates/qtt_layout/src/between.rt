@@ -1,6 +1,8 @@
 //! Between two tokens.
 
-ghost use Rattle.std.specs.Prelude.{◌≡◌, ◌≤◌, ◌∷◌, ◌++◌, [], true, vec_len, OnOk, IfOk};
+ghost use Rattle.std.specs.Prelude.{◌≡◌, ◌+◌, ◌<◌, ◌≤◌, ◌^◌, ◌∷◌, ◌++◌, [], length, vec_len, IsTrue, OnOk, IfOk};
+ghost use Rattle.qtt_layout.specs.Rules.{closed_by, brackets_behind, item_of};
+ghost use Rattle.qtt_layout.specs.Written.{Adds};
 
 use crate::block::{Block, right_of, since_bracket};
 use crate::laid::Laid;
@@ -21,9 +23,8 @@ pub struct Between {
 }
 
 impl Between {
-    ghost use Rattle.qtt_layout.specs.Rules.{start, opens, newest, empty_block, closes, without_newest, aligned, by_column, closed_by, brackets_behind, is_opener, item_of, at_end};
+    ghost use Rattle.qtt_layout.specs.Rules.{start, opens, newest, empty_block, closes, without_newest, aligned_at, by_column, added, behind, at_end};
     ghost use Rattle.qtt_layout.specs.Between.{state_of, with_blocks, PutsNext, PutsBefore, Lays};
-    ghost use Rattle.qtt_layout.specs.Written.{Adds};
     ghost use Rattle.qtt_layout.specs.declared.laid.Laid.TheVariants.{Open};
 
     pub fn new(alloc: Global) -> Between
@@ -94,4 +95,107 @@ impl Between {
         }
         true
     }
+
+    // Closes the blocks right of the token; false where the token is left of every block.
+    fn align(&mut self, span: Span, marks: &mut Marks) -> Result<bool, MemoryError>
+        ensures { IfOk result (PutsBefore (state_of self.old)
+            (aligned_at (state_of self.old) span) marks.old marks.new (state_of self.new)) }
+    {
+        let count = right_of(span.col, self.blocks.as_slice());
+        self.put_empty_block(span, marks)?;
+        self.close(count, span, marks)?;
+        Ok(self.put_next(span, marks))
+    }
+
+    // The marks by the token's column; false where it is left of the outermost block.
+    fn put_by_column(&mut self, token: &Token, marks: &mut Marks) -> Result<bool, MemoryError>
+        ensures { IfOk result (PutsBefore (state_of self.old)
+            (by_column (state_of self.old) token.now) marks.old marks.new (state_of self.new)) }
+    {
+        if self.opens(token) {
+            self.open(token.span, marks)?;
+            return Ok(true);
+        }
+        if token.span.line == self.line {
+            self.put_empty_block(token.span, marks)?;
+            return Ok(true);
+        }
+        self.align(token.span, marks)
+    }
+
+    // The token behind its marks, by its role.
+    fn put_behind_column(
+        &mut self,
+        role: Role,
+        token: &Token,
+        marks: &mut Marks,
+    ) -> Result<(), MemoryError>
+        requires { self.old.brackets + 1 < 2 ^ 64 }
+        ensures marks { OnOk result (Adds marks.old marks.new
+            (added role (state_of self.old) token.now self.old.blocks.items)) }
+        ensures state { OnOk result (state_of self.new ≡ behind role (state_of self.old) token.now self.old.blocks.items) }
+        ensures brackets { OnOk result (self.new.brackets ≤ self.old.brackets + 1) }
+    {
+        let count = closed_by(role, self.brackets, self.blocks.as_slice());
+        self.close(count, token.span, marks)?;
+        put_item(role, token, marks)?;
+        self.brackets = brackets_behind(role, self.brackets);
+        self.line = token.span.line;
+        self.awaits = role == Role::Opener;
+        Ok(())
+    }
+
+    /// A token that is not End, with its marks; false where it stands left of the outermost block.
+    pub fn lay(&mut self, role: Role, token: &Token, marks: &mut Marks) -> Result<bool, MemoryError>
+        requires { self.old.brackets + 1 < 2 ^ 64 }
+        ensures value { IfOk result (Lays role (state_of self.old) token.now
+            (by_column (state_of self.old) token.now) marks.old marks.new (state_of self.new)) }
+        ensures brackets { IfOk result (λ found. IsTrue found → self.new.brackets ≤ self.old.brackets + 1) }
+    {
+        if !self.put_by_column(token, marks)? {
+            return Ok(false);
+        }
+        self.put_behind_column(role, token, marks)?;
+        Ok(true)
+    }
+
+    /// The marks at the end.
+    pub fn finish(&mut self, end: &Token, marks: &mut Marks) -> Result<(), MemoryError>
+        ensures { OnOk result (Adds marks.old marks.new (at_end (state_of self.old) end.now)) }
+    {
+        self.put_empty_block(end.span, marks)?;
+        let count = self.blocks.len();
+        self.close(count, end.span, marks)
+    }
+}
+
+fn closed_by(role: Role, brackets: usize, blocks: &[Block]) -> usize
+    ensures value { result ≡ closed_by role brackets blocks.now }
+    ensures within { result ≤ length blocks.now }
+{
+    match role {
+        Role::RightBracket => since_bracket(brackets, blocks),
+        _ => 0,
+    }
+}
+
+fn brackets_behind(role: Role, brackets: usize) -> usize
+    requires { brackets + 1 < 2 ^ 64 }
+    ensures { result ≡ brackets_behind role brackets }
+{
+    match role {
+        Role::LeftBracket => brackets + 1,
+        Role::RightBracket => brackets.saturating_sub(1),
+        _ => brackets,
+    }
+}
+
+fn put_item(role: Role, token: &Token, marks: &mut Marks) -> Result<(), MemoryError>
+    ensures { OnOk result (Adds marks.old marks.new (item_of role token.now ∷ [])) }
+{
+    match role {
+        Role::Semicolon => marks.put_next(token.span),
+        _ => marks.put_token(token.copy()?)?,
+    }
+    Ok(())
 }

@@ -1,6 +1,6 @@
 //! The marks that have been put.
 
-ghost use Rattle.std.specs.Prelude.{◌≡◌, [], ◌∷◌, ◌++◌, None, replicate, OnOk};
+ghost use Rattle.std.specs.Prelude.{◌≡◌, [], ◌∷◌, ◌++◌, None, replicate, OnOk, IfOk};
 
 use crate::laid::Laid;
 use qtt_base::{MemoryError, Span};
@@ -79,5 +79,13 @@ impl Marks {
             self.put_close(span)?;
         }
         Ok(())
+    }
+
+    /// The marks that count.
+    pub fn into_laid(mut self) -> Result<Vec<Laid>, MemoryError>
+        ensures { IfOk result (λ laid. laid.items ≡ written self []) }
+    {
+        self.put_held()?;
+        Ok(self.laid)
     }
 }
