@@ -9,3 +9,4 @@ pub mod Scope
 pub mod Rows
 pub mod PrimFormed
 pub mod Moves
+pub mod Components

@@ -4,6 +4,7 @@
 pub mod context;
 pub mod convert;
 pub mod copying;
+pub mod equality;
 pub mod examples;
 pub mod globals;
 pub mod items;
