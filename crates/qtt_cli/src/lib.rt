@@ -1,5 +1,7 @@
 //! The program, as one call over the outside that it is handed.
 #![tactic(auto)]
 
+mod core_term;
+pub mod laws;
 mod smallest;
 mod words;
