@@ -3,5 +3,6 @@
 
 mod core_term;
 pub mod laws;
+mod parts;
 mod smallest;
 mod words;
