@@ -1,3 +1,5 @@
 pub mod Components
+pub mod Gains
 pub mod Runs
 pub mod Texts
+pub mod Turns

@@ -1,6 +1,7 @@
 -- Full runs of smallest programs.
-use Rattle.std.proofs.Common.{◌≡◌, ℕ, zero, suc, ◌+◌, ◌-◌, ◌*◌, ◌≤◌, List, [], ◌∷◌, ◌++◌, length, map, refl, sym, ap, ◌∙◌, subst, append_assoc, arith}
+use Rattle.std.proofs.Common.{◌≡◌, ℕ, zero, suc, ◌+◌, ◌-◌, ◌*◌, ◌≤◌, List, [], ◌∷◌, ◌++◌, length, map, Option, refl, sym, ap, ◌∙◌, subst, append_assoc, arith}
 use Rattle.std.proofs.lemmas.List.{append-nil}
+use Rattle.qtt_edge.specs.Sink.{Adds, AddsFront}
 use Rattle.qtt_prims.specs.Tapes.{Taped}
 use Rattle.qtt_term.specs.Term.{Term, TextLit}
 use Rattle.qtt_term.specs.Substitution.{sub, inst, lift, cons}
@@ -9,8 +10,9 @@ use Rattle.qtt_term.specs.Signature.{Definition, MkUnit}
 use Rattle.qtt_term.specs.Contraction.{contract}
 use Rattle.qtt_term.specs.FullRun.{Event, Config, Verdict, Run, pure_unit, run_on, full, text_of}
 use Rattle.qtt_term.specs.Programs.{program, many, io_unit, put, then_do}
-use Rattle.qtt_cli.specs.Smallest.{main_core, environment, main, step_bound, run_of, output}
+use Rattle.qtt_cli.specs.Smallest.{line, main_core, environment, main, step_bound, run_of, output}
 use Rattle.qtt_cli.specs.Laws.{PutsAll}
+use Rattle.qtt_cli.specs.Running.{bytes_of}
 
 -- the core mentions no variable
 pub core_closed : (ts : List (List ℕ)) (σ : ℕ → Term) → sub σ (main_core ts) ≡ main_core ts
@@ -80,3 +82,24 @@ pub smallest_end : (ts : List (List ℕ)) (bound : ℕ) (input : List ℕ) → 1
 smallest_end [] bound input some enough = absurd (omega arith)
 smallest_end (t ∷ ts) zero input some enough = absurd (omega arith)
 smallest_end (t ∷ ts) (suc bound) input some enough = ends_by t ts bound input (enough_for t ts bound (omega arith))
+
+-- ---- the bytes that are put
+text_of_lines : (ts : List (List ℕ)) → text_of (map Event.line ts) ≡ bytes_of ts
+text_of_lines [] = refl
+text_of_lines (t ∷ ts) = ap (λ bs. t ++ 10 ∷ bs) (text_of_lines ts) ∙ sym (append_assoc t (10 ∷ []) (bytes_of ts))
+
+pub output_is : (ts : List (List ℕ)) → 1 ≤ length ts → length ts ≤ 500 → output ts ≡ bytes_of ts
+unfolding run_of
+output_is ts some few =
+    let whole = smallest_end ts step_bound [] some (omega arith) in
+    ap text_of whole.events ∙ text_of_lines ts
+
+pub bytes_of-append : (ts us : List (List ℕ)) → bytes_of (ts ++ us) ≡ bytes_of ts ++ bytes_of us
+bytes_of-append [] us = refl
+bytes_of-append (t ∷ ts) us = ap (λ bs. line t ++ bs) (bytes_of-append ts us) ∙ sym (append_assoc (line t) (bytes_of ts) (bytes_of us))
+
+pub adds_output : (ts : List (List ℕ)) → 1 ≤ length ts → length ts ≤ 500 → (a b : Option (List ℕ)) → Adds a b (bytes_of ts) → Adds a b (output ts)
+adds_output ts some few a b adds = subst (λ bs. Adds a b bs) (sym (output_is ts some few)) adds
+
+pub adds_front_of_output : (ts : List (List ℕ)) → 1 ≤ length ts → length ts ≤ 500 → (a b : Option (List ℕ)) → AddsFront a b (bytes_of ts) → AddsFront a b (output ts)
+adds_front_of_output ts some few a b adds = subst (λ bs. AddsFront a b bs) (sym (output_is ts some few)) adds

@@ -2,5 +2,6 @@ pub mod Answers
 pub mod Components
 pub mod Laws
 pub mod Reading
+pub mod Running
 pub mod Smallest
 pub mod Words

@@ -62,7 +62,7 @@ abbrev pub step_bound : ℕ
 step_bound = 10000000
 
 -- full evaluation of main, over no input
-abbrev pub run_of : List (List ℕ) → Run
+unfoldable pub run_of : List (List ℕ) → Run
 run_of ts = full step_bound (environment ts) main []
 
 -- the bytes that full evaluation puts

@@ -4,5 +4,6 @@
 mod core_term;
 pub mod laws;
 mod parts;
+mod runner;
 mod smallest;
 mod words;
