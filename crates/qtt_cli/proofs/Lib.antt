@@ -1,3 +1,4 @@
+pub mod Answering
 pub mod Components
 pub mod Gains
 pub mod Runs

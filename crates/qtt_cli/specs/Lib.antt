@@ -1,5 +1,6 @@
 pub mod Answers
 pub mod Components
+pub mod Endings
 pub mod Laws
 pub mod Reading
 pub mod Running

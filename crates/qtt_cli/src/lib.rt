@@ -2,8 +2,10 @@
 #![tactic(auto)]
 
 mod core_term;
+mod ending;
 pub mod laws;
 mod parts;
 mod runner;
 mod smallest;
 mod words;
+mod work;

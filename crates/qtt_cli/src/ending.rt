@@ -1,0 +1,68 @@
+//! How the work ends, and what is told of it.
+
+ghost use Rattle.std.specs.Prelude.{◌≡◌, ◌⊎◌, MatchResult, string_bytes};
+ghost use Rattle.qtt_edge.specs.Sink.{AddsFront};
+ghost use Rattle.qtt_cli.specs.Answers.{Tells, memory_line};
+ghost use Rattle.qtt_cli.specs.Endings.{Finishes, Reports};
+
+use qtt_edge::{Sink, SinkError};
+use std::alloc::{AllocError, Global};
+
+/// How the work ended, with the name of the module where the line tells it.
+#[derive(Clone, Copy, Debug, PartialEq, Eq)]
+pub enum Ending<'a> {
+    /// The program ran to its end.
+    Ran,
+    /// The words are none that the program knows.
+    Usage,
+    /// The vault has no such module.
+    Absent(&'a str),
+    /// The module's text is none of those that are built yet.
+    Refused(&'a str),
+    VaultFailed,
+    OutputFailed,
+    Memory,
+}
+
+/// Tells of an ending on `err`, and gives its status.
+pub fn finish<E: Sink>(alloc: Global, err: &mut E, ending: Ending<'_>) -> u8
+    ensures { Finishes ending.entry result (E.content err.old) (E.content err.new) (E.faults err.old) (E.faults err.new) }
+{
+    match ending {
+        Ending::Ran => 0,
+        Ending::Usage => tell(
+            err,
+            64,
+            b"usage: qtt COMMAND MODULE [--steps N] [--budget N] [--jobs N]\n",
+        ),
+        Ending::Absent(name) => {
+            tell_text(err, 66, format!(in alloc; "module {name} not found\n"))
+        }
+        Ending::Refused(name) => tell_text(err, 1, format!(in alloc; "{name}:1:1: 0 NotYet\n")),
+        Ending::VaultFailed => tell(err, 74, b"vault failed\n"),
+        Ending::OutputFailed => tell(err, 74, b"output failed\n"),
+        Ending::Memory => tell(err, 71, b"out of memory\n"),
+    }
+}
+
+/// Puts a line, if there was memory for it, and gives the status, or that of want of memory.
+fn tell_text<E: Sink>(err: &mut E, status: u8, line: Result<String, AllocError>) -> u8
+    ensures { MatchResult line
+        (λ text. Reports status (string_bytes text) result (E.content err.old) (E.content err.new) (E.faults err.old) (E.faults err.new))
+        (λ _. (result ≡ 71) × AddsFront (E.content err.old) (E.content err.new) memory_line) }
+{
+    match line {
+        Ok(line) => tell(err, status, line.as_bytes()),
+        Err(_) => tell(err, 71, b"out of memory\n"),
+    }
+}
+
+/// Puts a line, and gives the status, or that of want of memory.
+fn tell<E: Sink>(err: &mut E, status: u8, line: &[u8]) -> u8
+    ensures { ((result ≡ status) × Tells (E.content err.old) (E.content err.new) (E.faults err.old) (E.faults err.new) line.now) ⊎ ((result ≡ 71) × AddsFront (E.content err.old) (E.content err.new) line.now) }
+{
+    match err.put(line) {
+        Ok(()) | Err(SinkError::Failed) => status,
+        Err(SinkError::Memory) => 71,
+    }
+}
