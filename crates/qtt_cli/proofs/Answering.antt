@@ -1,14 +1,14 @@
 -- What the words and the vault's text decide.
-use Rattle.std.proofs.Common.{◌≡◌, ◌≢◌, ℕ, zero, suc, ◌<◌, ◌≤◌, List, [], ◌∷◌, length, take, Option, Some, None, option_map, IfSome, Result, Ok, Err, IfOk, MatchResult, ◌⊎◌, inl, inr, String, string_bytes, Vec, Global, refl, sym, ap, ◌∙◌, subst, arith}
+use Rattle.std.proofs.Common.{◌≡◌, ℕ, zero, suc, ◌<◌, ◌≤◌, List, [], ◌∷◌, length, take, Option, Some, None, option_map, Result, Ok, Err, IfOk, MatchResult, inl, inr, String, string_bytes, Vec, Global, refl, sym, ap, ◌∙◌, subst, arith}
 use Rattle.std.proofs.lemmas.List.{length-take}
-use Rattle.qtt_edge.specs.Sink.{Adds, AddsFront}
+use Rattle.qtt_edge.specs.Sink.{AddsFront}
 use Rattle.qtt_edge.specs.Vault.{Reads}
 use Rattle.qtt_cli.specs.declared.ending.Ending.{Ending}
 use Rattle.qtt_cli.specs.declared.ending.Ending.TheVariants as ending
 use Rattle.qtt_cli.specs.Words.{asked}
-use Rattle.qtt_cli.specs.Smallest.{Smallest, output}
-use Rattle.qtt_cli.specs.Answers.{Texts, Read, Accepts, PutsFront, TellsFront, Due, usage_line, absent_line, not_yet_line, vault_line, output_line, memory_line}
-use Rattle.qtt_cli.specs.Endings.{EndsText, IsRefused, Faults, Ends, Finishes, Reports}
+use Rattle.qtt_cli.specs.Smallest.{Smallest}
+use Rattle.qtt_cli.specs.Answers.{Texts, Read, Accepts, memory_line}
+use Rattle.qtt_cli.specs.Endings.{EndsText, IsRefused, Faults, Ends, Reports}
 
 -- a line that was made is reported, else want of memory
 pub reports_line : {E : Type 0} (made : Result (String Global) E) (line : List ℕ) (status result : ℕ) (old new : Option (List ℕ)) (before now : ℕ) → IfOk made (λ text. string_bytes text ≡ line) →
@@ -81,31 +81,3 @@ ends_as_text words texts faults name front old new ending.Memory w ends =
 ends_as_text words texts faults name front old new ending.Usage w ends = absurd ends
 ends_as_text words texts faults name front old new (ending.Absent absent) w ends = absurd ends
 ends_as_text words texts faults name front old new ending.VaultFailed w ends = absurd ends
-
--- ---- want of memory
-told_front : (words : List (String Global)) (status : ℕ) (line : List ℕ) (result : ℕ) (old new : Option (List ℕ)) (before now : ℕ) → status ≢ 71 → Due words line → Reports status line result old new before now → result ≡ 71 → TellsFront words old new
-told_front words status line result old new before now other due (inl told) is = absurd (other (sym told.0 ∙ is))
-told_front words status line result old new before now other due (inr (is_memory, inl front)) is = (line, due, front)
-told_front words status line result old new before now other due (inr (is_memory, inr front)) is = (memory_line, Due.no_memory, front)
-
-pub memory_fronts : (words : List (String Global)) (texts : Texts) (faults : Faults) (e : Ending) (out_old out_new : Option (List ℕ)) (result : ℕ) (err_old err_new : Option (List ℕ)) (before now : ℕ) →
-    Ends words texts faults out_old out_new e → Finishes e result err_old err_new before now → result ≡ 71 → PutsFront words texts out_old out_new × TellsFront words err_old err_new
-memory_fronts words texts faults ending.Ran out_old out_new result err_old err_new before now ends tells is = absurd (never tells.0)
-  where
-    never : result ≡ 0 → ⊥
-    never ended = omega arith
-memory_fronts words texts faults ending.Usage out_old out_new result err_old err_new before now ends tells is =
-    (inl ends.1, told_front words 64 usage_line result err_old err_new before now (omega arith) (Due.usage ends.0) tells is)
-memory_fronts words texts faults (ending.Absent name) out_old out_new result err_old err_new before now ends tells is =
-    (inl ends.3, told_front words 66 (absent_line name.now) result err_old err_new before now (omega arith) (Due.absent ends.1) tells is)
-memory_fronts words texts faults (ending.Refused name) out_old out_new result err_old err_new before now ends tells is =
-    let refused = ends.0 in
-    (inl ends.1, told_front words 1 (not_yet_line name.now) result err_old err_new before now (omega arith) (Due.refusal refused.read.asked_for) tells is)
-memory_fronts words texts faults ending.VaultFailed out_old out_new result err_old err_new before now ends tells is =
-    let asks = ends.1 in
-    (inl ends.2, told_front words 74 vault_line result err_old err_new before now (omega arith) (Due.no_vault asks.1) tells is)
-memory_fronts words texts faults ending.OutputFailed out_old out_new result err_old err_new before now ends tells is =
-    let puts = ends.1 in
-    let accepted = puts.1 in
-    (inr puts, told_front words 74 output_line result err_old err_new before now (omega arith) (Due.no_output accepted.read.asked_for) tells is)
-memory_fronts words texts faults ending.Memory out_old out_new result err_old err_new before now ends tells is = (ends, (memory_line, Due.no_memory, tells.1))

@@ -1,7 +1,7 @@
 -- The components of the code's actions.
-use Rattle.std.proofs.Common.{◌≡◌, ℕ, zero, suc, List, [], ◌∷◌, ◌++◌, map, Option, Some, None, option_map, slice_get, refl, Bor}
+use Rattle.std.proofs.Common.{◌≡◌, ℕ, zero, suc, List, [], ◌∷◌, ◌++◌, Option, Some, None, option_map, slice_get, refl, Bor}
 use Rattle.qtt_term.specs.declared.term.Term as code
-use Rattle.qtt_term.specs.Term.{Terms, ◌+++◌}
+use Rattle.qtt_term.specs.Term.{◌+++◌}
 use Rattle.qtt_term.specs.View.{term, terms, side_by_side}
 use Rattle.qtt_cli.specs.Components.{component_at}
 

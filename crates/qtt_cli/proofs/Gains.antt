@@ -1,8 +1,7 @@
 -- What a sink gains from call to call.
-use Rattle.std.proofs.Common.{◌≡◌, ℕ, zero, suc, ◌+◌, ◌-◌, ◌^◌, ◌≤◌, List, [], ◌∷◌, ◌++◌, length, take, min, Option, Some, None, option_map, Result, Ok, Err, OnErr, refl, sym, ap, ◌∙◌, subst, append_assoc, arith}
+use Rattle.std.proofs.Common.{◌≡◌, ℕ, zero, suc, ◌+◌, List, [], ◌∷◌, ◌++◌, length, take, Option, Some, None, option_map, Result, Ok, Err, OnErr, refl, sym, ap, ◌∙◌, subst, append_assoc}
 use Rattle.std.proofs.lemmas.List.{append-nil}
-use Rattle.std.proofs.Math.Seq.{take-append-add, take-length}
-use Rattle.qtt_edge.specs.Counts.{Rose, Counts}
+use Rattle.std.proofs.Math.Seq.{take-append-add}
 use Rattle.qtt_edge.specs.Sink.{Adds, AddsFront}
 
 pub adds_none : (a : Option (List ℕ)) → Adds a a []
@@ -29,16 +28,6 @@ adds_front a b c xs ys p q = (length xs + q.0, rw (take-append-add xs ys q.0) (a
 -- a front of the first bytes is a front of all
 pub front_more : (a b : Option (List ℕ)) (xs ys : List ℕ) → AddsFront a b xs → AddsFront a b (xs ++ ys)
 front_more a b xs ys p = let r = take_within xs ys p.0 in (r.0, subst (λ l. Adds a b l) (sym r.1) p.1)
-
-pub front_whole : (a b : Option (List ℕ)) (xs : List ℕ) → Adds a b xs → AddsFront a b xs
-front_whole a b xs p = (length xs, subst (λ l. Adds a b l) (sym (take-length xs)) p)
-
-pub front_none : (a b : Option (List ℕ)) (xs : List ℕ) → Adds a b [] → AddsFront a b xs
-front_none a b xs p = (0, p)
-
--- a later rise is a rise
-pub rose_later : (first before now : ℕ) → first ≤ before → Rose before now → Rose first now
-rose_later first before now le rose = omega arith
 
 pub on_err_any : {T E P : Type 0} (r : Result T E) → P → OnErr r P
 on_err_any (Ok x) p = tt

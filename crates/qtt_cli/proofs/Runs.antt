@@ -1,12 +1,10 @@
 -- Full runs of smallest programs.
 use Rattle.std.proofs.Common.{◌≡◌, ℕ, zero, suc, ◌+◌, ◌-◌, ◌*◌, ◌≤◌, List, [], ◌∷◌, ◌++◌, length, map, Option, refl, sym, ap, ◌∙◌, subst, append_assoc, arith}
-use Rattle.std.proofs.lemmas.List.{append-nil}
 use Rattle.qtt_edge.specs.Sink.{Adds, AddsFront}
 use Rattle.qtt_prims.specs.Tapes.{Taped}
 use Rattle.qtt_term.specs.Term.{Term, TextLit}
-use Rattle.qtt_term.specs.Substitution.{sub, inst, lift, cons}
-use Rattle.qtt_term.specs.Term.{var}
-use Rattle.qtt_term.specs.Signature.{Definition, MkUnit}
+use Rattle.qtt_term.specs.Substitution.{sub, lift}
+use Rattle.qtt_term.specs.Signature.{Definition}
 use Rattle.qtt_term.specs.Contraction.{contract}
 use Rattle.qtt_term.specs.FullRun.{Event, Config, Verdict, Run, pure_unit, run_on, full, text_of}
 use Rattle.qtt_term.specs.Programs.{program, many, io_unit, put, then_do}

@@ -1,13 +1,12 @@
 -- What the text of a smallest program says of its lines: each text is that of one list of lines at most.
-use Rattle.std.proofs.Common.{◌≡◌, ◌≢◌, ℕ, zero, suc, ◌+◌, ◌<◌, ◌≤◌, List, [], ◌∷◌, ◌++◌, length, codes, Option, Some, None, MatchOption, refl, sym, ap, ◌∙◌, subst, append_assoc, arith}
-use Rattle.std.proofs.lemmas.Grind.{common_steps}
+use Rattle.std.proofs.Common.{◌≡◌, ◌≢◌, ℕ, suc, ◌+◌, ◌<◌, ◌≤◌, List, [], ◌∷◌, ◌++◌, length, codes, Option, Some, None, MatchOption, refl, sym, ap, ◌∙◌, append_assoc, arith}
 use Rattle.std.specs.List.{All, AllByRecursion}
-use Rattle.std.specs.Str.{IsAscii, IsUtf8}
+use Rattle.std.specs.Str.{IsUtf8}
 use Rattle.std.proofs.lemmas.List.{length-append, append_cancel_left}
-use Rattle.std.proofs.lemmas.List.Elements.{All-from_recursion, recursion_from_All, All-nil, All-cons, All-append}
+use Rattle.std.proofs.lemmas.List.Elements.{All-from_recursion, recursion_from_All}
 use Rattle.std.proofs.lemmas.Str.{IsUtf8-from_ascii}
 use Rattle.std.proofs.lemmas.Str.Ascii.{IsAscii-from_all}
-use Rattle.qtt_cli.specs.Smallest.{line, statement, statements, module_text, Plain, PlainText, Smallest}
+use Rattle.qtt_cli.specs.Smallest.{statement, statements, Plain, PlainText, Smallest}
 use Rattle.qtt_cli.specs.Reading.{heading, Statements}
 
 pub weaker_option : {A P P' : Type 0} {Q Q' : A → Type 0} (r : Option A) → MatchOption r P Q → (P → P') → ((x : A) → Q x → Q' x) → MatchOption r P' Q'
@@ -51,9 +50,6 @@ pub quote_ends : (us : List ℕ) → EndsPlain (34 ∷ us)
 quote_ends us b bs e p =
     let quote : 34 ≡ b = cc in
     p.no_quote (sym quote)
-
-all_plain : (b : ℕ) (bs : List ℕ) → AllByRecursion Plain (b ∷ bs) → Plain b
-all_plain b bs p = p.0
 
 -- the plain characters in front are told apart from what follows
 same_front : (t p r q : List ℕ) → AllByRecursion Plain t → AllByRecursion Plain p → EndsPlain r → EndsPlain q → t ++ r ≡ p ++ q → (t ≡ p) × (r ≡ q)
@@ -148,20 +144,6 @@ too_many body ls rest e all_ls some full ts s = by (continues body ls rest ts e 
             let few = s.few in
             let count : length ts ≡ length ls + suc (length more) = ap length lines ∙ length-append ls (t ∷ more) in
             omega arith
-
-pub none_at_all : (body : List ℕ) (ls : List (List ℕ)) (rest : List ℕ) → body ≡ statements ls ++ rest → All PlainText ls → rest ≡ [] → length ls ≡ 0 →
-    (ts : List (List ℕ)) → Statements body ts → ⊥
-none_at_all body ls rest e all_ls empty none ts s = by (continues body ls rest ts e all_ls s)
-  where
-    by : Continues ls rest ts → ⊥
-    by c = cases c.more c.lines c.text
-      where
-        cases : (more : List (List ℕ)) → ts ≡ ls ++ more → rest ≡ statements more → ⊥
-        cases [] lines text =
-            let some = s.some in
-            let count : length ts ≡ length ls + 0 = ap length lines ∙ length-append ls [] in
-            omega arith
-        cases (t ∷ more) lines text = absurd cc
 
 -- ---- the whole text
 pub whole_text : (name text body : List ℕ) (ts : List (List ℕ)) → text ≡ heading name ++ body → name ≢ codes "Prim" → length text ≤ 1048576 → Statements body ts → Smallest name text ts

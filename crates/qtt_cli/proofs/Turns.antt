@@ -1,6 +1,5 @@
 -- One contraction of a run of a smallest program.
-use Rattle.std.proofs.Common.{◌≡◌, ℕ, zero, suc, ◌+◌, ◌-◌, ◌*◌, ◌≤◌, ◌<◌, List, [], ◌∷◌, ◌++◌, length, Option, Some, None, option_map, IsSome, refl, sym, ap, ◌∙◌, append_assoc, Bor, arith}
-use Rattle.std.proofs.lemmas.List.{append-nil}
+use Rattle.std.proofs.Common.{◌≡◌, ℕ, ◌+◌, ◌-◌, ◌*◌, ◌≤◌, List, [], ◌∷◌, ◌++◌, length, Option, Some, None, option_map, IsSome, refl, sym, ap, ◌∙◌, append_assoc, Bor, arith}
 use Rattle.qtt_usage.specs.Mult.{ω}
 use Rattle.qtt_term.specs.declared.term.Term as code
 use Rattle.qtt_term.specs.Term.{Lam, TextLit}
@@ -9,10 +8,10 @@ use Rattle.qtt_term.specs.Signature.{UnitTy}
 use Rattle.qtt_term.specs.Programs.{put, then_do}
 use Rattle.qtt_term.specs.View.{term}
 use Rattle.qtt_cli.specs.declared.runner.Current.TheVariants as current
-use Rattle.qtt_cli.specs.Smallest.{line, main_core}
+use Rattle.qtt_cli.specs.Smallest.{main_core}
 use Rattle.qtt_edge.specs.Sink.{Adds, AddsFront}
 use Rattle.qtt_cli.specs.declared.runner.Runner.{Runner}
-use Rattle.qtt_cli.specs.Running.{Stands, contractions_left, IsContinuation, bytes_of, Goes, Runs}
+use Rattle.qtt_cli.specs.Running.{Stands, contractions_left, bytes_of, Goes, Runs}
 use Rattle.qtt_cli.proofs.Gains.{adds_then, adds_front}
 use Rattle.qtt_cli.proofs.Runs.{bytes_of-append}
 

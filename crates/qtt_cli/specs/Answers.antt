@@ -1,5 +1,5 @@
 -- What holds of the outside where a status is answered.
-use Rattle.std.specs.Prelude.{◌≡◌, ℕ, List, [], ◌∷◌, ◌++◌, ◌⊎◌, Option, Some, None, codes, IfSome, String}
+use Rattle.std.specs.Prelude.{◌≡◌, ℕ, List, [], ◌++◌, ◌⊎◌, Option, Some, None, codes, IfSome, String}
 use Rattle.std.specs.declared.alloc.Global.{Global}
 use Rattle.qtt_edge.specs.Counts.{Rose}
 use Rattle.qtt_edge.specs.Sink.{Adds, AddsFront}

@@ -1,5 +1,5 @@
 -- The laws that the functions of this crate ensure.
-use Rattle.std.specs.Prelude.{◌≡◌, ◌≤◌, ◌+◌, ◌-◌, ◌*◌, ℕ, List, length, map}
+use Rattle.std.specs.Prelude.{◌≡◌, ◌≤◌, ◌-◌, ◌*◌, ℕ, List, length, map}
 use Rattle.qtt_term.specs.FullRun.{Event, Verdict, Run, full}
 use Rattle.qtt_cli.specs.Smallest.{environment, main}
 

@@ -1,6 +1,7 @@
 pub mod Answers
 pub mod Components
 pub mod Endings
+pub mod Examples
 pub mod Laws
 pub mod Reading
 pub mod Running

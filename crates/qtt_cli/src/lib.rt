@@ -7,6 +7,8 @@ pub mod laws;
 mod parts;
 mod runner;
 mod smallest;
+#[cfg(test)]
+mod tests;
 mod words;
 mod work;
 
@@ -46,7 +48,7 @@ pub fn qtt_main<V: Vault, I: Source, O: Sink, E: Sink, T: Tapes, G: Gate>(
     ensures failed { result ≡ 74 →
         (Rose (V.faults vault.old) (V.faults vault.new) × Fails words.now (Tells (E.content err.old) (E.content err.new) (E.faults err.old) (E.faults err.new)) × Adds (O.content out.old) (O.content out.new) [])
         ⊎ (Rose (O.faults out.old) (O.faults out.new) × Tells (E.content err.old) (E.content err.new) (E.faults err.old) (E.faults err.new) output_line
-            × ((ts : List (List ℕ)) × Accepts words.now (V.texts vault.old) ts × AddsFront (O.content out.old) (O.content out.new) (output ts))) }
+        × ((ts : List (List ℕ)) × Accepts words.now (V.texts vault.old) ts × AddsFront (O.content out.old) (O.content out.new) (output ts))) }
     ensures memory { result ≡ 71 → PutsFront words.now (V.texts vault.old) (O.content out.old) (O.content out.new) × TellsFront words.now (E.content err.old) (E.content err.new) }
 
     // What is not touched.

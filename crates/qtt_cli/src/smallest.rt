@@ -19,11 +19,7 @@ const MAX_STATEMENTS: usize = 500;
 const MAX_TEXT: usize = 65_536;
 
 /// The lines that the program of this text puts, if it is the text of a smallest program.
-pub fn read_lines(
-    alloc: Global,
-    name: &str,
-    text: &[u8],
-) -> Result<Option<Vec<Text>>, AllocError>
+pub fn read_lines(alloc: Global, name: &str, text: &[u8]) -> Result<Option<Vec<Text>>, AllocError>
     ensures { IfOk result (λ read. MatchOption read ((ts : List (List ℕ)) → ¬ Smallest name.now text.now ts) (λ lines. Smallest name.now text.now lines.items)) }
 {
     if name == "Prim" || text.len() > MAX_MODULE {

@@ -1,4 +1,4 @@
-use Rattle.std.proofs.Common.{◌≡◌, ◌++◌, ◌∷◌, List, ℕ, length, vec_len}
+use Rattle.std.proofs.Common.{◌≡◌, ◌++◌, ◌∷◌, List, ℕ, vec_len}
 use Rattle.qtt_term.specs.View.{term}
 use Rattle.qtt_cli.specs.Smallest.{main_core}
 use Rattle.qtt_cli.proofs.core_term.main_core.Given as goal

@@ -1,8 +1,6 @@
-use Rattle.std.proofs.Common.{◌≡◌, IfOk, string_bytes, append_assoc, arith, ◌∙◌}
-use Rattle.std.proofs.lemmas.Grind.{common_steps}
+use Rattle.std.proofs.Common.{◌≡◌, IfOk, string_bytes, append_assoc, ◌∙◌}
 use Rattle.std.proofs.lemmas.Result.{IfOk-weaker}
 use Rattle.qtt_cli.specs.Answers.{absent_line, not_yet_line}
-use Rattle.qtt_cli.specs.Endings.{Finishes}
 use Rattle.qtt_cli.proofs.Answering.{reports_line}
 use Rattle.qtt_cli.proofs.ending.finish.Goals as goal
 

@@ -1,5 +1,5 @@
-use Rattle.std.proofs.Common.{◌≡◌, ◌≤◌, List, ℕ, length, sym, ap, arith}
-use Rattle.qtt_cli.proofs.Texts.{weaker_option, reads_text, plain_is_utf8}
+use Rattle.std.proofs.Common.{◌≡◌, ◌≤◌, length, sym, ap, arith}
+use Rattle.qtt_cli.proofs.Texts.{reads_text, plain_is_utf8}
 use Rattle.qtt_cli.proofs.smallest.first_statement.Goals as goal
 
 pub returns-in_err-rest : goal.returns-in_err-rest

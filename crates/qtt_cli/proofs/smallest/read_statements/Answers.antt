@@ -1,8 +1,8 @@
-use Rattle.std.proofs.Common.{◌≡◌, ◌++◌, ◌∷◌, [], List, ℕ, subst, sym, ap, ◌∙◌, arith}
+use Rattle.std.proofs.Common.{◌≡◌, ◌++◌, ◌∷◌, [], arith}
 use Rattle.std.proofs.lemmas.Grind.{common_steps}
 use Rattle.std.specs.List.{All}
 use Rattle.std.proofs.lemmas.List.Elements.{All-nil, All-cons, All-append}
-use Rattle.qtt_cli.specs.Smallest.{PlainText, statements}
+use Rattle.qtt_cli.specs.Smallest.{PlainText}
 use Rattle.qtt_cli.proofs.Texts.{no_other, too_many, one_more}
 use Rattle.qtt_cli.proofs.smallest.read_statements.Goals as goal
 

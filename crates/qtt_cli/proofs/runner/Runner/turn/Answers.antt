@@ -1,10 +1,9 @@
-use Rattle.std.proofs.Common.{◌≡◌, ◌++◌, ◌∷◌, [], List, ℕ, Some, refl, sym, ap, ◌∙◌, subst, rules, arith}
+use Rattle.std.proofs.Common.{◌≡◌, ◌++◌, ◌∷◌, [], refl, subst, arith}
 use Rattle.std.proofs.lemmas.Grind.{common_steps}
 use Rattle.std.proofs.lemmas.List.{append-nil}
-use Rattle.std.proofs.lemmas.Result.{on_err_weaker, IfOk-from_err}
 use Rattle.qtt_edge.specs.Sink.{Adds, AddsFront}
 use Rattle.qtt_cli.specs.Smallest.{line}
-use Rattle.qtt_cli.specs.Running.{Stands, bytes_of}
+use Rattle.qtt_cli.specs.Running.{bytes_of}
 use Rattle.qtt_cli.proofs.Gains.{adds_none, front_more, on_err_any}
 use Rattle.qtt_cli.proofs.Turns.{put_stands, bind_stands, mapped_some, mapped_value}
 use Rattle.qtt_cli.proofs.runner.Runner.turn.Goals as goal
