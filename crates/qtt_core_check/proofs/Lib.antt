@@ -1,1 +1,9 @@
 pub mod Endings
+pub mod Parts
+pub mod Lists
+pub mod Derived
+pub mod Forms
+pub mod Arguments
+pub mod Joins
+pub mod Branching
+pub mod Sound

@@ -1,8 +1,13 @@
 -- The laws that the functions of this crate ensure.
 use Rattle.std.specs.Prelude.{◌≡◌, ℕ, ◌≤◌}
 use Rattle.qtt_term.specs.Signature.{Env}
+use Rattle.qtt_usage.specs.Usage.{use_of}
+use Rattle.qtt_term.specs.Term.{Term}
+use Rattle.qtt_term.specs.Judgement.{Part, Ctx, Typed}
+use Rattle.qtt_term.specs.Environment.{NoTape}
 use Rattle.qtt_term.specs.Ask.{Question, Ending, Ends, within}
-use Rattle.qtt_term.specs.Infer.{Premise, Asks, Inferred}
+use Rattle.qtt_term.specs.Infer.{Premise, Asks, Inferred, infer}
+use Rattle.qtt_core_check.specs.WithUses.{HasUses}
 use Rattle.qtt_core_check.specs.FirstSpent.{FirstSpent, Says, IsSpent}
 
 abbrev pub Inference : Type 0
@@ -19,3 +24,8 @@ OneEnding E = (m : Asks Inferred) (e r : Inference) → Ends E m e → Ends E m 
 
 abbrev pub LargerBudgetsKeepEndings : Env → Type 0
 LargerBudgetsKeepEndings E = (n k : ℕ) (m : Asks Inferred) → n ≤ k → (IsSpent (within E n m) → ⊥) → within E k m ≡ within E n m
+
+-- what is inferred for a term is so: its type, and the uses of variables. Lists tell nothing of tapes; a term in which none stands uses none
+pub record InferIsSound (E : Env) : Type 0 where
+  pub has_uses : (p : Part) (Γ : Ctx) (t : Term) (j : Inferred) → Ends E (infer E p Γ t) (Ending.ok j) → HasUses E p Γ t j.type j.uses
+  pub typed : (p : Part) (Γ : Ctx) (t : Term) (j : Inferred) → NoTape t → Ends E (infer E p Γ t) (Ending.ok j) → Typed E p Γ t j.type (use_of j.uses)

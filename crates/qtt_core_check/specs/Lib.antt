@@ -1,2 +1,3 @@
 pub mod FirstSpent
+pub mod WithUses
 pub mod Laws

@@ -2,7 +2,9 @@
 
 ghost use Rattle.qtt_term.specs.Signature.{Env};
 ghost use Rattle.qtt_term.specs.Contraction.{BodiesClosed};
-ghost use Rattle.qtt_core_check.specs.Laws.{EndingsAreSo, OneEnding, LargerBudgetsKeepEndings};
+ghost use Rattle.qtt_core_check.specs.Laws.{EndingsAreSo, OneEnding, LargerBudgetsKeepEndings, InferIsSound};
+ghost use Rattle.qtt_core_check.specs.WithUses.{ResultsCounted};
+ghost use Rattle.qtt_term.specs.Environment.{WellFormed};
 
 /// What a judgement answers within a budget is so without one: a type, a premise that fails, or the first question that is spent.
 pub fn endings_are_so()
@@ -17,4 +19,11 @@ pub fn one_ending()
 /// A larger budget keeps every ending but a question that is spent.
 pub fn larger_budgets_keep_endings()
     ensures { (E : Env) → LargerBudgetsKeepEndings E }
+{}
+
+/// What is inferred for a term is so by the rules, dead terms included. Of the environment it asks only that the result of each
+/// constructor has a term for each index, as in every well-formed one.
+pub fn infer_is_sound()
+    ensures sound { (E : Env) → ResultsCounted E → InferIsSound E }
+    ensures well_formed { (E : Env) → WellFormed E → ResultsCounted E }
 {}
