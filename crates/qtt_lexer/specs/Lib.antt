@@ -6,3 +6,4 @@ pub mod Quoted
 pub mod Comment
 pub mod Fitting
 pub mod Lexed
+pub mod Forms
