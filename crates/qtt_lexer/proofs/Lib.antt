@@ -1,10 +1,13 @@
+pub mod Ascii
 pub mod Comments
 pub mod Fittings
 pub mod Lexing
+pub mod Longest
 pub mod NameParts
 pub mod Numbers
 pub mod Pieces
 pub mod Slices
+pub mod Sound
 pub mod Symbols
 pub mod Texts
 pub mod Words

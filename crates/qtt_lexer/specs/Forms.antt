@@ -1,11 +1,16 @@
 -- What may stand in a text: the forms of its tokens, blanks and comments.
-use Rattle.std.specs.Prelude.{◌≡◌, ◌≢◌, ℕ, suc, ◌+◌, ◌<◌, ◌≤◌, ◌^◌, ◌==◌, not, if◌then◌else◌, Bool, true, false, pos, neg_ℤ, List, [], ◌∷◌, ◌++◌, length, Option, Some, None, unwrap_or, encode_utf8}
+use Rattle.std.specs.Prelude.{◌≡◌, ◌≢◌, ℕ, suc, ◌+◌, ◌<◌, ◌≤◌, ◌^◌, ◌==◌, ◌⊎◌, not, if◌then◌else◌, Bool, true, false, pos, neg_ℤ, List, [], ◌∷◌, ◌++◌, length, Option, Some, None, unwrap_or, encode_utf8}
 use Rattle.std.specs.List.{list_all}
 use Rattle.std.specs.Str.{encode_utf8_all}
 use Rattle.std.specs.Char.{is_ascii_digit}
 use Rattle.qtt_base.specs.Parts.{has_long_part}
 use Rattle.qtt_lexer.specs.Characters.{is_blank, begins_part, goes_on}
 use Rattle.qtt_lexer.specs.Piece.{reserved, names_hole, decimal, escape, opens, closes, pairs, singles, listed}
+use Rattle.qtt_base.specs.declared.place.Span.{Span}
+use Rattle.qtt_lexer.specs.Place.{start, place_after}
+use Rattle.qtt_lexer.specs.Lexed.{token}
+use Rattle.qtt_lexer.specs.declared.place.Place.{Place}
+use Rattle.qtt_lexer.specs.declared.token.Token.{Token}
 use Rattle.qtt_lexer.specs.declared.token.TokenKind.{TokenKind}
 use Rattle.qtt_lexer.specs.declared.token.TokenKind.TheVariants as kind
 
@@ -57,3 +62,55 @@ pub record Cut : Type 0 where
 abbrev pub IsPart : Option TokenKind → List ℕ → Type 0
 IsPart None cs = IsGap cs
 IsPart (Some k) cs = IsToken k cs
+
+-- the characters of parts, one behind the other
+abbrev pub characters_of : List Cut → List ℕ
+characters_of [] = []
+characters_of (cut ∷ cuts) = cut.characters ++ characters_of cuts
+
+abbrev pub with_token : Place → Cut → Option TokenKind → List Token → List Token
+with_token p cut None ts = ts
+with_token p cut (Some k) ts = token k p cut.characters ∷ ts
+
+-- the tokens of parts that begin at a place, each at the place behind the characters before it, and End behind all of them
+abbrev pub tokens_of : Place → List Cut → List Token
+tokens_of p [] = token kind.End p [] ∷ []
+tokens_of p (cut ∷ cuts) = with_token p cut cut.kind (tokens_of (place_after p cut.characters) cuts)
+
+-- a part has the form of its kind, and what goes on behind it has no form together with it: it is the longest that begins there
+pub record IsLongest (cut : Cut) (behind : List ℕ) : Type 0 where
+  pub some : 0 < length cut.characters
+  pub form : IsPart cut.kind cut.characters
+  pub longest : (o : Option TokenKind) (more rest : List ℕ) → behind ≡ more ++ rest → 0 < length more → IsPart o (cut.characters ++ more) → ⊥
+
+abbrev pub AreLongest : List Cut → Type 0
+AreLongest [] = Unit {0}
+AreLongest (cut ∷ cuts) = IsLongest cut (characters_of cuts) × AreLongest cuts
+
+-- the parts make up the characters, each is the longest that begins there, and the tokens are theirs
+pub record CutsInto (p : Place) (cs : List ℕ) (ts : List Token) : Type 0 where
+  pub cuts : List Cut
+  pub whole : characters_of cuts ≡ cs
+  pub longest : AreLongest cuts
+  pub tokens : ts ≡ tokens_of p cuts
+
+-- the bytes spell these characters, behind a byte order mark or not
+abbrev pub AreSpelled : List ℕ → List ℕ → Type 0
+AreSpelled bytes cs = (encode_utf8_all cs ≡ bytes) ⊎ (encode_utf8_all (0xFEFF ∷ cs) ≡ bytes)
+
+-- bytes are a text whose tokens these are
+pub record IsText (bytes : List ℕ) (ts : List Token) : Type 0 where
+  pub characters : List ℕ
+  pub spelled : AreSpelled bytes characters
+  pub parts : CutsInto start characters ts
+
+-- a fault stands behind some characters at the front of the text: at one of its characters, or directly behind them
+pub record HasPlace (bytes : List ℕ) (span : Span) : Type 0 where
+  pub before : List ℕ
+  pub behind : List ℕ
+  pub rest : List ℕ
+  pub text : List ℕ
+  pub spelled : AreSpelled text (before ++ behind)
+  pub front : bytes ≡ text ++ rest
+  pub line : span.line ≡ (place_after start before).line
+  pub col : span.col ≡ (place_after start before).col
