@@ -2,11 +2,11 @@
 use Rattle.std.proofs.Common.{◌≡◌, ℕ, ◌<◌, ◌==◌, ◌||◌, ◌⊎◌, inl, inr, Bool, true, false, List, refl, sym, ap, ◌∙◌, arith}
 use Rattle.std.proofs.lemmas.Bool.Decides.{nat_tests, eqb_tells}
 use Rattle.std.proofs.lemmas.Bool.{eqb-true}
-use Rattle.std.specs.Char.{is_ascii_alphabetic, is_ascii_alphanumeric, is_ascii_digit}
+use Rattle.std.specs.Char.{is_ascii_alphabetic, is_ascii_digit}
 use Rattle.unicode_ident.proofs.IdentLemmas.{is_xid_start-ascii, is_xid_continue-ascii, is_xid_start-is_xid_continue}
-use Rattle.unicode_ident.specs.Ident.{is_xid_start, is_xid_continue}
-use Rattle.qtt_lexer.specs.Characters.{is_blank, begins_part, continues_part, begins}
-use Rattle.qtt_lexer.specs.Piece.{front_of, is_dash}
+use Rattle.unicode_ident.specs.Ident.{is_xid_start}
+use Rattle.qtt_lexer.specs.Characters.{begins_part, continues_part}
+use Rattle.qtt_lexer.specs.Piece.{front_of}
 use Rattle.qtt_lexer.specs.declared.front.Front.TheVariants as front
 
 pub begins_part-ascii : (c : ℕ) → c < 128 → begins_part c ≡ (is_ascii_alphabetic c || (c == 95))

@@ -1,5 +1,6 @@
 pub mod Ascii
 pub mod Comments
+pub mod Cutting
 pub mod Fittings
 pub mod Lexing
 pub mod Longest

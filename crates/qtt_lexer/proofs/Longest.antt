@@ -1,29 +1,29 @@
 -- Whatever has the form of a token, a blank or a comment is read as a piece at least as long.
-use Rattle.std.proofs.Common.{◌≡◌, ◌≢◌, ℕ, zero, suc, ◌+◌, ◌-◌, ◌<◌, ◌≤◌, ◌^◌, ◌==◌, ◌&&◌, ◌||◌, ◌⊎◌, inl, inr, not, nat_lt, nat_le, nat_eq, Bool, true, false, cond, pos, neg_ℤ, List, [], ◌∷◌, ◌++◌, length, take, drop, encode_utf8, Option, Some, None, option_map, is_some, unwrap_or, refl, sym, ap, subst, ◌∙◌, append_assoc, length-append, arith}
-use Rattle.std.proofs.lemmas.Bool.{eqb-true, eqb-false}
-use Rattle.std.proofs.lemmas.Bool.Decides.{nat_tests, eqb_tells}
+use Rattle.std.proofs.Common.{◌≡◌, ℕ, suc, ◌+◌, ◌-◌, ◌≤◌, ◌^◌, ◌==◌, ◌&&◌, ◌||◌, ◌⊎◌, inl, inr, not, nat_lt, nat_le, Bool, true, false, cond, pos, neg_ℤ, List, [], ◌∷◌, ◌++◌, length, take, Option, Some, None, option_map, unwrap_or, refl, sym, ap, subst, ◌∙◌, append_assoc, length-append, arith}
+use Rattle.std.proofs.lemmas.Bool.{eqb-true}
+use Rattle.std.proofs.lemmas.Bool.Decides.{eqb_tells}
 use Rattle.std.specs.List.{list_all, prefix_len}
 use Rattle.std.specs.Char.{is_ascii_digit}
 use Rattle.std.specs.Str.{encode_utf8_all}
 use Rattle.qtt_base.specs.Parts.{has_long_part}
-use Rattle.qtt_lexer.specs.Characters.{is_blank, begins, begins_part, continues_part, goes_on}
+use Rattle.qtt_lexer.specs.Characters.{begins, begins_part, continues_part, goes_on}
 use Rattle.qtt_lexer.specs.Forms.{all_go_on, IsName, Spells, Nested, IsToken, IsGap, IsPart}
 use Rattle.qtt_lexer.specs.Forms.Spells.{nothing, plain, escaped}
 use Rattle.qtt_lexer.specs.Forms.Nested.{last, opened, closed, other}
 use Rattle.qtt_lexer.specs.Forms.IsToken.{word as is_word, hole as is_hole, number as is_number, negative as is_negative, text as is_text, one as is_one, two as is_two}
 use Rattle.qtt_lexer.specs.Forms.IsGap.{blank as is_blank_gap, line as is_line, comment as is_comment}
 use Rattle.qtt_lexer.specs.Fitting.{Fits}
-use Rattle.qtt_lexer.specs.Piece.{piece_at, by_front, front_of, is_dash, name_tail, name_at, name_length, word_of, reserved, hole_at, hole_of, names_hole, number_at, number_of, decimal, quoted, preceded, by_escape, escape, text_of, comment_tail, closing, opens, closes, comment_of, line_of, symbol_at, symbol_of, of_one, of_two, sized, or_else, listed, pairs, singles, bad}
+use Rattle.qtt_lexer.specs.Piece.{piece_at, by_front, front_of, name_tail, name_at, word_of, reserved, hole_at, hole_of, names_hole, number_at, number_of, quoted, preceded, by_escape, text_of, comment_tail, comment_of, symbol_at, symbol_of, of_one, sized, or_else, listed, pairs, bad}
 use Rattle.qtt_lexer.specs.declared.front.Front.{Front}
 use Rattle.qtt_lexer.specs.declared.front.Front.TheVariants as front
 use Rattle.qtt_lexer.specs.declared.quoted.Quotation.{Quotation}
-use Rattle.qtt_lexer.specs.declared.quoted.Quotation.TheVariants.{Closed, LineEnds, TextEnds, BadEscape}
+use Rattle.qtt_lexer.specs.declared.quoted.Quotation.TheVariants.{Closed}
 use Rattle.qtt_lexer.specs.declared.token.TokenKind.{TokenKind}
 use Rattle.qtt_lexer.specs.declared.token.TokenKind.TheVariants as kind
 use Rattle.qtt_lexer.specs.declared.piece.Cause.TheVariants.{NameTooLong}
 use Rattle.qtt_lexer.specs.declared.piece.Piece.{Piece}
 use Rattle.qtt_lexer.specs.declared.piece.Piece.TheVariants.{Gap, Token, Wrong}
-use Rattle.qtt_lexer.proofs.Ascii.{front_of-name, front_of-number, begins_part-ascii, begins_part-digit}
+use Rattle.qtt_lexer.proofs.Ascii.{front_of-name, front_of-number, begins_part-ascii}
 use Rattle.qtt_lexer.proofs.Fittings.{piece_at-fits}
 use Rattle.qtt_lexer.proofs.Texts.{quoted-closed, quoted-plain, quoted-escape}
 
@@ -61,12 +61,13 @@ goes_on_more false c cs ds e h =
     let h' : ((c == 46) && begins begins_part cs) ≡ true = ap (λ (b : Bool). b || ((c == 46) && begins begins_part cs)) (sym e) ∙ h in
     rw (e, eqb_of (c == 46) (begins begins_part cs) h') (begins-append begins_part cs ds (snd_of (c == 46) (begins begins_part cs) h'))
   where
-  eqb_of : (a b : Bool) → (a && b) ≡ true → a ≡ true
-  eqb_of true b h = refl
-  eqb_of false b h = cc
-  snd_of : (a b : Bool) → (a && b) ≡ true → b ≡ true
-  snd_of true b h = h
-  snd_of false b h = cc
+    eqb_of : (a b : Bool) → (a && b) ≡ true → a ≡ true
+    eqb_of true b h = refl
+    eqb_of false b h = cc
+
+    snd_of : (a b : Bool) → (a && b) ≡ true → b ≡ true
+    snd_of true b h = h
+    snd_of false b h = cc
 
 tail_by : (b : Bool) (c : ℕ) (cs ds : List ℕ) → goes_on c cs ≡ b → cond b (all_go_on cs) false ≡ true → (all_go_on cs ≡ true → length cs ≤ name_tail (cs ++ ds)) → suc (length cs) ≤ name_tail (c ∷ (cs ++ ds))
 unfolding name_tail
@@ -129,9 +130,9 @@ negative_front : (c : ℕ) (cs : List ℕ) → is_ascii_digit c ≡ true → fro
 negative_front c cs h =
     rw (not_dash (eqb_tells c 45), begins_part-ascii 45 (omega arith), h) refl
   where
-  not_dash : (((c == 45) ≡ true) × (c ≡ 45)) ⊎ (((c == 45) ≡ false) × (c ≡ 45 → ⊥)) → (c == 45) ≡ false
-  not_dash (inl e) = absurd (let f = sym h ∙ ap is_ascii_digit e.1 in cc)
-  not_dash (inr e) = e.0
+    not_dash : (((c == 45) ≡ true) × (c ≡ 45)) ⊎ (((c == 45) ≡ false) × (c ≡ 45 → ⊥)) → (c == 45) ≡ false
+    not_dash (inl e) = absurd (let f = sym h ∙ ap is_ascii_digit e.1 in cc)
+    not_dash (inr e) = e.0
 
 negative_at-least : (broken : Bool) (c : ℕ) (cs ds : List ℕ) → list_all is_ascii_digit (c ∷ cs) ≡ true → AtLeast (suc (suc (length cs))) (piece_at broken (45 ∷ c ∷ (cs ++ ds)))
 unfolding number_at

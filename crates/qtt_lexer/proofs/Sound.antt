@@ -1,18 +1,18 @@
 -- What is read at the front of characters has the form of a token, a blank or a comment.
-use Rattle.std.proofs.Common.{◌≡◌, ◌≢◌, ℕ, zero, suc, ◌+◌, ◌-◌, ◌<◌, ◌≤◌, ◌^◌, ◌==◌, ◌&&◌, ◌||◌, ◌⊎◌, inl, inr, not, nat_lt, nat_le, Bool, true, false, cond, pos, neg_ℤ, List, [], ◌∷◌, ◌++◌, length, take, drop, encode_utf8, Option, Some, None, option_map, is_some, unwrap_or, IfSome, refl, sym, ap, subst, ◌∙◌, add-one, arith}
+use Rattle.std.proofs.Common.{◌≡◌, ℕ, zero, suc, ◌+◌, ◌-◌, ◌<◌, ◌≤◌, ◌^◌, ◌==◌, ◌&&◌, ◌||◌, not, nat_lt, nat_le, Bool, true, false, cond, pos, neg_ℤ, List, [], ◌∷◌, ◌++◌, length, take, drop, encode_utf8, Option, Some, None, option_map, unwrap_or, IfSome, refl, sym, ap, subst, ◌∙◌, add-one, arith}
 use Rattle.std.proofs.lemmas.Bool.{eqb-true, eqb-false}
-use Rattle.std.proofs.lemmas.Bool.Decides.{nat_tests, eqb_tells}
-use Rattle.std.specs.List.{list_all, prefix_len, take_while}
+use Rattle.std.proofs.lemmas.Bool.Decides.{nat_tests}
+use Rattle.std.specs.List.{list_all, prefix_len}
 use Rattle.std.specs.Char.{is_ascii_digit}
 use Rattle.std.specs.Str.{encode_utf8_all}
 use Rattle.qtt_base.specs.Parts.{has_long_part}
 use Rattle.qtt_lexer.specs.Characters.{is_blank, begins, begins_part, continues_part, goes_on}
-use Rattle.qtt_lexer.specs.Forms.{all_go_on, IsName, Spells, Nested, IsToken, IsGap, IsPart}
+use Rattle.qtt_lexer.specs.Forms.{all_go_on, IsName, Spells, Nested, IsToken, IsGap}
 use Rattle.qtt_lexer.specs.Forms.Spells.{nothing, plain, escaped}
 use Rattle.qtt_lexer.specs.Forms.Nested.{last, opened, closed, other}
 use Rattle.qtt_lexer.specs.Forms.IsToken.{word as is_word, hole as is_hole, number as is_number, negative as is_negative, text as is_text, one as is_one, two as is_two}
 use Rattle.qtt_lexer.specs.Forms.IsGap.{blank as is_blank_gap, line as is_line, comment as is_comment}
-use Rattle.qtt_lexer.specs.Piece.{piece_at, by_front, front_of, is_dash, name_tail, name_at, name_length, word_of, reserved, hole_at, hole_of, names_hole, number_at, number_of, decimal, quoted, preceded, by_escape, escape, text_of, comment_tail, closing, opens, closes, comment_of, line_of, symbol_at, symbol_of, of_one, of_two, sized, or_else, listed, pairs, singles, bad}
+use Rattle.qtt_lexer.specs.Piece.{piece_at, by_front, front_of, is_dash, name_tail, name_at, reserved, hole_at, hole_of, names_hole, number_at, decimal, quoted, preceded, by_escape, escape, text_of, comment_tail, closing, opens, closes, comment_of, symbol_at, symbol_of, of_one, sized, or_else, listed, pairs, singles, bad}
 use Rattle.qtt_lexer.specs.declared.front.Front.{Front}
 use Rattle.qtt_lexer.specs.declared.front.Front.TheVariants as front
 use Rattle.qtt_lexer.specs.declared.quoted.Quotation.{Quotation}
@@ -110,7 +110,7 @@ comment-right : (broken : Bool) (c : ℕ) (cs : List ℕ) → ((c == 123) && beg
 comment-right broken c cs h =
     let parts = both (c == 123) (begins is_dash cs) h in
     let same : 123 ∷ 45 ∷ drop 1 cs ≡ c ∷ cs =
-        ap (λ (x : ℕ). x ∷ 45 ∷ drop 1 cs) (sym (eqb-true c 123 parts.0)) ∙ ap (λ (ds : List ℕ). c ∷ ds) (sym (begins_with 45 cs parts.1)) in
+    ap (λ (x : ℕ). x ∷ 45 ∷ drop 1 cs) (sym (eqb-true c 123 parts.0)) ∙ ap (λ (ds : List ℕ). c ∷ ds) (sym (begins_with 45 cs parts.1)) in
     let right = comment_right broken (length cs + 1) (drop 1 cs) (comment_tail 0 (drop 1 cs)) (comment_tail-nested 0 (drop 1 cs)) in
     subst (λ (ds : List ℕ). IsRight ds (comment_of broken (length cs + 1) (comment_tail 0 (drop 1 cs)))) same right
 
@@ -127,18 +127,19 @@ line-right broken c cs h =
     let parts = both (is_dash c) (begins is_dash cs) h in
     line_from c cs (eqb-true c 45 parts.0) (begins_with 45 cs parts.1)
   where
-  line_at : (ds : List ℕ) → IsGap (take (prefix_len (λ x. not (x == 10)) (45 ∷ ds) + 1) (45 ∷ 45 ∷ ds))
-  line_at ds =
-      let n = prefix_len (λ x. not (x == 10)) ds in
-      let same : 45 ∷ 45 ∷ take n ds ≡ take (1 + n + 1) (45 ∷ 45 ∷ ds) =
-          ap (λ (es : List ℕ). 45 ∷ es) (sym (take_first n 45 ds)) ∙ sym (take_one (1 + n) 45 (45 ∷ ds)) in
-      subst IsGap same (is_line (take n ds) (prefix_passes (λ x. not (x == 10)) ds))
-  line_from : (x : ℕ) (ds : List ℕ) → x ≡ 45 → ds ≡ 45 ∷ drop 1 ds → IsGap (take (prefix_len (λ y. not (y == 10)) ds + 1) (x ∷ ds))
-  line_from x ds is e =
-      let same : 45 ∷ 45 ∷ drop 1 ds ≡ x ∷ ds = ap (λ (y : ℕ). y ∷ 45 ∷ drop 1 ds) (sym is) ∙ ap (λ (es : List ℕ). x ∷ es) (sym e) in
-      let at = line_at (drop 1 ds) in
-      let there : IsGap (take (prefix_len (λ y. not (y == 10)) ds + 1) (45 ∷ 45 ∷ drop 1 ds)) = subst (λ (es : List ℕ). IsGap (take (prefix_len (λ y. not (y == 10)) es + 1) (45 ∷ 45 ∷ drop 1 ds))) (sym e) at in
-      subst (λ (es : List ℕ). IsGap (take (prefix_len (λ y. not (y == 10)) ds + 1) es)) same there
+    line_at : (ds : List ℕ) → IsGap (take (prefix_len (λ x. not (x == 10)) (45 ∷ ds) + 1) (45 ∷ 45 ∷ ds))
+    line_at ds =
+        let n = prefix_len (λ x. not (x == 10)) ds in
+        let same : 45 ∷ 45 ∷ take n ds ≡ take (1 + n + 1) (45 ∷ 45 ∷ ds) =
+        ap (λ (es : List ℕ). 45 ∷ es) (sym (take_first n 45 ds)) ∙ sym (take_one (1 + n) 45 (45 ∷ ds)) in
+        subst IsGap same (is_line (take n ds) (prefix_passes (λ x. not (x == 10)) ds))
+
+    line_from : (x : ℕ) (ds : List ℕ) → x ≡ 45 → ds ≡ 45 ∷ drop 1 ds → IsGap (take (prefix_len (λ y. not (y == 10)) ds + 1) (x ∷ ds))
+    line_from x ds is e =
+        let same : 45 ∷ 45 ∷ drop 1 ds ≡ x ∷ ds = ap (λ (y : ℕ). y ∷ 45 ∷ drop 1 ds) (sym is) ∙ ap (λ (es : List ℕ). x ∷ es) (sym e) in
+        let at = line_at (drop 1 ds) in
+        let there : IsGap (take (prefix_len (λ y. not (y == 10)) ds + 1) (45 ∷ 45 ∷ drop 1 ds)) = subst (λ (es : List ℕ). IsGap (take (prefix_len (λ y. not (y == 10)) es + 1) (45 ∷ 45 ∷ drop 1 ds))) (sym e) at in
+        subst (λ (es : List ℕ). IsGap (take (prefix_len (λ y. not (y == 10)) ds + 1) es)) same there
 
 -- Texts
 
@@ -246,7 +247,7 @@ name-right c cs h =
     let same = take_one n c cs in
     word_if (has_long_part (encode_utf8_all (take (n + 1) (c ∷ cs)))) (n + 1) (c ∷ cs) (encode_utf8_all (take (n + 1) (c ∷ cs)))
     (λ k. subst (λ (ds : List ℕ). IsToken (kind_of_word ds) ds) (sym same)
-        (is_word c (take n cs) _ (name_front c cs h (ap (λ (ds : List ℕ). has_long_part (encode_utf8_all ds)) (sym same) ∙ k)) refl))
+    (is_word c (take n cs) _ (name_front c cs h (ap (λ (ds : List ℕ). has_long_part (encode_utf8_all ds)) (sym same) ∙ k)) refl))
 
 hole_if : (a b : Bool) (n c : ℕ) (ds word : List ℕ) → (a ≡ true → b ≡ false → IsToken (kind.Hole word) (take (n + 1) ds)) → IsRight ds (cond a (cond b (Wrong NameTooLong 1 n) (Token (kind.Hole word) (n + 1))) (bad c))
 hole_if true true n c ds word h = tt
@@ -260,7 +261,7 @@ hole_named c cs h =
     let word = encode_utf8_all (take (n + 1) (c ∷ cs)) in
     hole_if (names_hole word) (has_long_part word) (n + 1) 63 (63 ∷ c ∷ cs) word
     (λ a b. subst (IsToken (kind.Hole word)) (ap (λ (ds : List ℕ). 63 ∷ ds) (sym same) ∙ sym (take_one (n + 1) 63 (c ∷ cs)))
-        (is_hole c (take n cs) word (name_front c cs h (ap (λ (ds : List ℕ). has_long_part (encode_utf8_all ds)) (sym same) ∙ b)) (ap encode_utf8_all same) a))
+    (is_hole c (take n cs) word (name_front c cs h (ap (λ (ds : List ℕ). has_long_part (encode_utf8_all ds)) (sym same) ∙ b)) (ap encode_utf8_all same) a))
 
 hole_at-right : (cs : List ℕ) → IsRight (63 ∷ cs) (hole_at cs)
 unfolding hole_at
@@ -290,7 +291,7 @@ number-right c cs h =
     let same = number_front c cs h in
     right_if (nat_lt (decimal (take n (c ∷ cs))) (2 ^ 63)) (c ∷ cs) (Token (kind.Number (pos (decimal (take n (c ∷ cs))))) n) _
     (λ k. subst (IsToken (kind.Number (pos (decimal (take n (c ∷ cs)))))) (sym same)
-        (is_number c (decimal (take n (c ∷ cs))) ds (ap (list_all is_ascii_digit) (sym same) ∙ prefix_passes is_ascii_digit (c ∷ cs)) (ap decimal same) (below (decimal (take n (c ∷ cs))) (2 ^ 63) k)))
+    (is_number c (decimal (take n (c ∷ cs))) ds (ap (list_all is_ascii_digit) (sym same) ∙ prefix_passes is_ascii_digit (c ∷ cs)) (ap decimal same) (below (decimal (take n (c ∷ cs))) (2 ^ 63) k)))
     (λ k. tt)
 
 negative_right : (c : ℕ) (cs : List ℕ) → is_ascii_digit c ≡ true → IsRight (45 ∷ c ∷ cs) (number_at true (c ∷ cs))
@@ -301,7 +302,7 @@ negative_right c cs h =
     let same = number_front c cs h in
     right_if (nat_le (decimal (take n (c ∷ cs))) (2 ^ 63)) (45 ∷ c ∷ cs) (Token (kind.Number (neg_ℤ (pos (decimal (take n (c ∷ cs)))))) (n + 1)) _
     (λ k. subst (IsToken (kind.Number (neg_ℤ (pos (decimal (take n (c ∷ cs))))))) (ap (λ (es : List ℕ). 45 ∷ es) (sym same) ∙ sym (take_one n 45 (c ∷ cs)))
-        (is_negative c (decimal (take n (c ∷ cs))) ds (ap (list_all is_ascii_digit) (sym same) ∙ prefix_passes is_ascii_digit (c ∷ cs)) (ap decimal same) (at_most (decimal (take n (c ∷ cs))) (2 ^ 63) k)))
+    (is_negative c (decimal (take n (c ∷ cs))) ds (ap (list_all is_ascii_digit) (sym same) ∙ prefix_passes is_ascii_digit (c ∷ cs)) (ap decimal same) (at_most (decimal (take n (c ∷ cs))) (2 ^ 63) k)))
     (λ k. tt)
 
 negative_from : (cs : List ℕ) → begins is_ascii_digit cs ≡ true → IsRight (45 ∷ cs) (number_at true cs)

@@ -1,6 +1,5 @@
 -- Texts, read character by character.
-use Rattle.std.proofs.Common.{◌≡◌, ◌≢◌, ℕ, suc, ◌+◌, ◌-◌, ◌<◌, ◌≤◌, List, [], ◌∷◌, ◌++◌, length, encode_utf8, append_assoc, Option, Some, None, refl, sym, ap, subst, ◌∙◌, arith}
-use Rattle.std.proofs.lemmas.List.{append-nil}
+use Rattle.std.proofs.Common.{◌≡◌, ◌≢◌, ℕ, suc, ◌+◌, ◌-◌, ◌<◌, ◌≤◌, List, [], ◌∷◌, ◌++◌, length, Option, Some, None, refl, sym, ap, subst, ◌∙◌, arith}
 use Rattle.std.proofs.lemmas.Bool.Decides.{nat_tests}
 use Rattle.qtt_lexer.specs.Piece.{quoted, preceded, by_escape, escape}
 use Rattle.qtt_lexer.specs.Quoted.{IsStep}
@@ -81,50 +80,7 @@ follows value n LineEnds = LineEnds
 follows value n (TextEnds m) = TextEnds (n + m)
 follows value n (BadEscape m) = BadEscape (n + m)
 
-follows-zero : (q : Quotation) → follows [] 0 q ≡ q
-follows-zero (Closed value m) = ap (Closed value) (omega arith)
-follows-zero LineEnds = refl
-follows-zero (TextEnds m) = ap TextEnds (omega arith)
-follows-zero (BadEscape m) = ap BadEscape (omega arith)
-
-pub follows-none : (value cs : List ℕ) → value ≡ [] → follows value (length cs - length cs) (quoted cs) ≡ quoted cs
-follows-none value cs e =
-    let zero_of : length cs - length cs ≡ 0 = omega arith in
-    rw (e, zero_of) (follows-zero (quoted cs))
-
-follows-preceded : (value : List ℕ) (n c m : ℕ) (q : Quotation) → follows value n (preceded c m q) ≡ follows (value ++ encode_utf8 c) (n + m) q
-follows-preceded value n c m (Closed rest k) =
-    ap (λ (v : List ℕ). Closed v (n + (m + k))) (sym (append_assoc value (encode_utf8 c) rest)) ∙ ap (Closed ((value ++ encode_utf8 c) ++ rest)) (omega arith)
-follows-preceded value n c m LineEnds = refl
-follows-preceded value n c m (TextEnds k) = ap TextEnds (omega arith)
-follows-preceded value n c m (BadEscape k) = ap BadEscape (omega arith)
-
-module _ (cs rest value : List ℕ) (same : follows value (length cs - length rest) (quoted rest) ≡ quoted cs) where
-  pub follows-more : (behind more : List ℕ) (c : ℕ) → length rest ≤ length cs → length behind < length rest → quoted rest ≡ preceded c (length rest - length behind) (quoted behind) → more ≡ value ++ encode_utf8 c → follows more (length cs - length behind) (quoted behind) ≡ quoted cs
-  follows-more behind more c le lt h e =
-      let n = length cs - length rest in
-      let sum : n + (length rest - length behind) ≡ length cs - length behind = omega (arith, le, lt) in
-      rw (e, ← sum) (sym (follows-preceded value n c (length rest - length behind) (quoted behind)))
-      ∙ ap (follows value n) (sym h) ∙ same
-
-  pub follows-closed : quoted rest ≡ Closed [] 1 → Closed value (length cs - length rest + 1) ≡ quoted cs
-  follows-closed h =
-      ap (λ (v : List ℕ). Closed v (length cs - length rest + 1)) (sym (append-nil value))
-      ∙ ap (follows value (length cs - length rest)) (sym h) ∙ same
-
-  pub follows-line_ends : quoted rest ≡ LineEnds → LineEnds ≡ quoted cs
-  follows-line_ends h = ap (follows value (length cs - length rest)) (sym h) ∙ same
-
-  pub follows-text_ends : length rest ≤ length cs → quoted rest ≡ TextEnds (length rest) → TextEnds (length cs) ≡ quoted cs
-  follows-text_ends le h =
-      let sum : length cs - length rest + length rest ≡ length cs = omega (arith, le) in
-      ap TextEnds (sym sum) ∙ ap (follows value (length cs - length rest)) (sym h) ∙ same
-
-  pub follows-bad_escape : quoted rest ≡ BadEscape 0 → BadEscape (length cs - length rest) ≡ quoted cs
-  follows-bad_escape h =
-      let sum : length cs - length rest + 0 ≡ length cs - length rest = omega arith in
-      ap BadEscape (sym sum) ∙ ap (follows value (length cs - length rest)) (sym h) ∙ same
-
+-- what a backslash before the rest does, it does where it stands
 pub escaped_from : (cs rest : List ℕ) (c : ℕ) (step : Step) → cs ≡ c ∷ rest → c ≡ 92 → IsStep (92 ∷ rest) step → IsStep cs step
 escaped_from cs rest c step is e h =
     let same : 92 ∷ rest ≡ cs = ap (λ (x : ℕ). x ∷ rest) (sym e) ∙ sym is in

@@ -1,5 +1,5 @@
 -- What may stand in a text: the forms of its tokens, blanks and comments.
-use Rattle.std.specs.Prelude.{◌≡◌, ◌≢◌, ℕ, suc, ◌+◌, ◌<◌, ◌≤◌, ◌^◌, ◌==◌, ◌⊎◌, not, if◌then◌else◌, Bool, true, false, pos, neg_ℤ, List, [], ◌∷◌, ◌++◌, length, Option, Some, None, unwrap_or, encode_utf8}
+use Rattle.std.specs.Prelude.{◌≡◌, ◌≢◌, ℕ, suc, ◌<◌, ◌≤◌, ◌^◌, ◌==◌, ◌⊎◌, not, if◌then◌else◌, Bool, true, false, pos, neg_ℤ, List, [], ◌∷◌, ◌++◌, length, Option, Some, None, unwrap_or, encode_utf8}
 use Rattle.std.specs.List.{list_all}
 use Rattle.std.specs.Str.{encode_utf8_all}
 use Rattle.std.specs.Char.{is_ascii_digit}
@@ -9,6 +9,8 @@ use Rattle.qtt_lexer.specs.Piece.{reserved, names_hole, decimal, escape, opens, 
 use Rattle.qtt_base.specs.declared.place.Span.{Span}
 use Rattle.qtt_lexer.specs.Place.{start, place_after}
 use Rattle.qtt_lexer.specs.Lexed.{token}
+use Rattle.qtt_lexer.specs.declared.errors.LexError.{LexError}
+use Rattle.qtt_lexer.specs.declared.errors.LexError.TheVariants as errors
 use Rattle.qtt_lexer.specs.declared.place.Place.{Place}
 use Rattle.qtt_lexer.specs.declared.token.Token.{Token}
 use Rattle.qtt_lexer.specs.declared.token.TokenKind.{TokenKind}
@@ -114,3 +116,8 @@ pub record HasPlace (bytes : List ℕ) (span : Span) : Type 0 where
   pub front : bytes ≡ text ++ rest
   pub line : span.line ≡ (place_after start before).line
   pub col : span.col ≡ (place_after start before).col
+
+-- the fault of an error has a place
+abbrev pub HasPlaceIn : List ℕ → LexError → Type 0
+HasPlaceIn bytes errors.Memory = Unit {0}
+HasPlaceIn bytes (errors.Fault fault) = HasPlace bytes fault.span

@@ -4,6 +4,7 @@ ghost use Rattle.std.specs.Prelude.{◌≡◌, ℕ, ◌+◌, ◌*◌, ◌<◌, �
 ghost use Rattle.std.specs.Str.{chars};
 ghost use Rattle.std.specs.Str.Lossy.{utf8_valid_len};
 ghost use Rattle.qtt_lexer.specs.Place.{start, place_after};
+ghost use Rattle.qtt_lexer.specs.Forms.{IsText, HasPlaceIn};
 ghost use Rattle.qtt_lexer.specs.Lexed.{Gives, Refuses, seen, kind_of, kept_word, mistake, token, tokens_from, with_front, ReadsPiece, without_mark, lexed};
 
 use crate::errors::LexError;
@@ -168,7 +169,12 @@ fn without_mark(characters: &[char]) -> &[char]
 /// The tokens of a module's text.
 pub fn lex(alloc: Global, bytes: &[u8]) -> Result<Vec<Token>, LexError>
     requires { length bytes.now < 2 ^ 29 }
-    ensures { Gives result (lexed bytes.now) }
+    // Exactly the tokens, or the first fault.
+    ensures exact { Gives result (lexed bytes.now) }
+    // The tokens, with the blanks and comments between them, make up the text; each is the longest that begins there.
+    ensures text { IfOk result (λ tokens. IsText bytes.now tokens.items) }
+    // A fault has a place in the text or directly behind it.
+    ensures place { IfErr result (HasPlaceIn bytes.now) }
 {
     let (text, broken) = front_text(bytes);
     let characters = characters_of(alloc, text)?;
