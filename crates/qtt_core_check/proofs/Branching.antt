@@ -219,7 +219,7 @@ targets-are : (g : GlobalId) (k m n : ℕ) (cs : List Constructor) → ResultsAr
 targets-are g k m n [] h = tt
 targets-are g k m n (c ∷ cs) h = (size-append c.results _ ∙ omega (arith, h.0), targets-are g k (suc m) n cs h.1)
 
-motive-binds : (E : Env) (f : GlobalId) → length (fam_at E f).motive ≡ suc (length (family_at E f).indices)
+pub motive-binds : (E : Env) (f : GlobalId) → length (fam_at E f).motive ≡ suc (length (family_at E f).indices)
 motive-binds E f = length-append (index_binders 0 (family_at E f).indices) _ ∙ omega (arith, length-indices 0 (family_at E f).indices)
 
 splits : (E : Env) (p : Part) (Γ : Ctx) (f : GlobalId) (q : Mult) → Splits E p Γ (fam_at E f) q f

@@ -7,3 +7,5 @@ pub mod Arguments
 pub mod Joins
 pub mod Branching
 pub mod Sound
+pub mod OneType
+pub mod OneUse

@@ -3,11 +3,14 @@ use Rattle.std.specs.Prelude.{◌≡◌, ℕ, ◌≤◌}
 use Rattle.qtt_term.specs.Signature.{Env}
 use Rattle.qtt_usage.specs.Usage.{use_of}
 use Rattle.qtt_term.specs.Term.{Term}
-use Rattle.qtt_term.specs.Judgement.{Part, Ctx, Typed}
+use Rattle.qtt_usage.specs.Uses.{Key, Use}
+use Rattle.qtt_term.specs.Contraction.{Conv}
+use Rattle.qtt_term.specs.Judgement.{KeyIn, Part, Ctx, Typed}
 use Rattle.qtt_term.specs.Environment.{NoTape}
 use Rattle.qtt_term.specs.Ask.{Question, Ending, Ends, within}
 use Rattle.qtt_term.specs.Infer.{Premise, Asks, Inferred, infer}
 use Rattle.qtt_core_check.specs.WithUses.{HasUses}
+use Rattle.qtt_core_check.specs.Trapless.{NoTrap}
 use Rattle.qtt_core_check.specs.FirstSpent.{FirstSpent, Says, IsSpent}
 
 abbrev pub Inference : Type 0
@@ -29,3 +32,8 @@ LargerBudgetsKeepEndings E = (n k : ℕ) (m : Asks Inferred) → n ≤ k → (Is
 pub record InferIsSound (E : Env) : Type 0 where
   pub has_uses : (p : Part) (Γ : Ctx) (t : Term) (j : Inferred) → Ends E (infer E p Γ t) (Ending.ok j) → HasUses E p Γ t j.type j.uses
   pub typed : (p : Part) (Γ : Ctx) (t : Term) (j : Inferred) → NoTape t → Ends E (infer E p Γ t) (Ending.ok j) → Typed E p Γ t j.type (use_of j.uses)
+
+-- a term has one type up to conversion, in whatever part it is judged; and one use in the run part, where no Trap stands in it
+pub record OneTypeAndUse (E : Env) : Type 0 where
+  pub type : (p r : Part) (Γ : Ctx) (t A B : Term) (u w : Use) → Typed E p Γ t A u → Typed E r Γ t B w → Conv E A B
+  pub uses : (Γ : Ctx) (t A B : Term) (u w : Use) → NoTrap t → Typed E Part.run Γ t A u → Typed E Part.run Γ t B w → (x : Key) → KeyIn Γ x → u x ≡ w x

@@ -1,3 +1,4 @@
 pub mod FirstSpent
 pub mod WithUses
+pub mod Trapless
 pub mod Laws

@@ -2,7 +2,7 @@
 
 ghost use Rattle.qtt_term.specs.Signature.{Env};
 ghost use Rattle.qtt_term.specs.Contraction.{BodiesClosed};
-ghost use Rattle.qtt_core_check.specs.Laws.{EndingsAreSo, OneEnding, LargerBudgetsKeepEndings, InferIsSound};
+ghost use Rattle.qtt_core_check.specs.Laws.{EndingsAreSo, OneEnding, LargerBudgetsKeepEndings, InferIsSound, OneTypeAndUse};
 ghost use Rattle.qtt_core_check.specs.WithUses.{ResultsCounted};
 ghost use Rattle.qtt_term.specs.Environment.{WellFormed};
 
@@ -26,4 +26,9 @@ pub fn larger_budgets_keep_endings()
 pub fn infer_is_sound()
     ensures sound { (E : Env) → ResultsCounted E → InferIsSound E }
     ensures well_formed { (E : Env) → WellFormed E → ResultsCounted E }
+{}
+
+/// A term has one type up to conversion, and, where no Trap stands in it, one use.
+pub fn one_type_and_use()
+    ensures { (E : Env) → BodiesClosed E → OneTypeAndUse E }
 {}
