@@ -34,7 +34,7 @@ abbrev pub tele_of : List Wanted → Tele
 tele_of [] = []
 tele_of (w ∷ ws) = (w.mult, w.type) ∷ tele_of ws
 
-tele_of-wanted : (r : Premise) (Θ : Tele) → tele_of (wanted r Θ) ≡ Θ
+pub tele_of-wanted : (r : Premise) (Θ : Tele) → tele_of (wanted r Θ) ≡ Θ
 tele_of-wanted r [] = refl
 tele_of-wanted r (b ∷ Θ) = ap (λ Θ. b ∷ Θ) (tele_of-wanted r Θ)
 
@@ -42,7 +42,7 @@ pub length-wanted : (r : Premise) (Θ : Tele) → length (wanted r Θ) ≡ lengt
 length-wanted r [] = refl
 length-wanted r (b ∷ Θ) = ap suc (length-wanted r Θ)
 
-tele_of-append : (ws vs : List Wanted) → tele_of (ws ++ vs) ≡ tele_of ws ++ tele_of vs
+pub tele_of-append : (ws vs : List Wanted) → tele_of (ws ++ vs) ≡ tele_of ws ++ tele_of vs
 tele_of-append [] vs = refl
 tele_of-append (w ∷ ws) vs = ap (λ Θ. (w.mult, w.type) ∷ Θ) (tele_of-append ws vs)
 
@@ -99,7 +99,7 @@ params-first Ξ (b ∷ Θ) σ ε js S a = elim a [ ]
 params-first Ξ (b ∷ Θ) σ (t ▸ ts) [] S a = elim a [ ]
 params-first Ξ (b ∷ Θ) σ (t ▸ ts) (j ∷ js) S (Args.more a) = ParamsThenArgs.param (params-first Ξ Θ (cons t σ) ts js S a)
 
-scale-append : (q : Mult) (Θ Ξ : Tele) → scale q (Θ ++ Ξ) ≡ scale q Θ ++ scale q Ξ
+pub scale-append : (q : Mult) (Θ Ξ : Tele) → scale q (Θ ++ Ξ) ≡ scale q Θ ++ scale q Ξ
 scale-append q [] Ξ = refl
 scale-append q (b ∷ Θ) Ξ = ap (λ Θ. (q ⊙ b.0, b.1) ∷ Θ) (scale-append q Θ Ξ)
 

@@ -222,14 +222,16 @@ targets-are g k m n (c ∷ cs) h = (size-append c.results _ ∙ omega (arith, h.
 pub motive-binds : (E : Env) (f : GlobalId) → length (fam_at E f).motive ≡ suc (length (family_at E f).indices)
 motive-binds E f = length-append (index_binders 0 (family_at E f).indices) _ ∙ omega (arith, length-indices 0 (family_at E f).indices)
 
-splits : (E : Env) (p : Part) (Γ : Ctx) (f : GlobalId) (q : Mult) → Splits E p Γ (fam_at E f) q f
-splits E p Γ f q xs e =
+pub wants-counted : (E : Env) (f : GlobalId) → length (family_wants (fam_at E f)) ≡ length (family_at E f).params + length (family_at E f).indices
+wants-counted E f =
     let params = (family_at E f).params in
     let indices = index_binders 0 (family_at E f).indices in
-    let counted : size xs ≡ length params + length (family_at E f).indices =
-    e ∙ length-wanted _ (scale 𝟘 (params ++ indices)) ∙ length-scale 𝟘 (params ++ indices) ∙ length-append params indices
-    ∙ ap (λ n. length params + n) (length-indices 0 (family_at E f).indices) in
-    ap suc (size-skip (length params) xs (length (family_at E f).indices) counted) ∙ sym (motive-binds E f)
+    length-wanted _ (scale 𝟘 (params ++ indices)) ∙ length-scale 𝟘 (params ++ indices) ∙ length-append params indices
+    ∙ ap (λ n. length params + n) (length-indices 0 (family_at E f).indices)
+
+splits : (E : Env) (p : Part) (Γ : Ctx) (f : GlobalId) (q : Mult) → Splits E p Γ (fam_at E f) q f
+splits E p Γ f q xs e =
+    ap suc (size-skip (length (family_at E f).params) xs (length (family_at E f).indices) (e ∙ wants-counted E f)) ∙ sym (motive-binds E f)
 
 module _ {E : Env} (counted : ResultsCounted E) where
   case-cased : (q : Mult) (f : GlobalId) (k m : ℕ) (ns : List ℕ) (ts : Terms) (p : Part) (Γ : Ctx) (R : Term) (us : List Mult) → There (E.family f) →

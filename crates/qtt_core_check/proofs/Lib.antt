@@ -9,3 +9,7 @@ pub mod Branching
 pub mod Sound
 pub mod OneType
 pub mod OneUse
+pub mod Heads
+pub mod Clean
+pub mod CleanCase
+pub mod NeverFails

@@ -138,3 +138,14 @@ unfolding fill behind
 fill-fits [] d = tt
 fill-fits (b ∷ Θ) d =
     (subst (λ m. m ≼ b.0) (sym (fill-out Θ (behind b.0 d) (Key.v 0))) (≼-refl b.0), fill-fits Θ (behind b.0 d))
+
+-- ---- and the other way: uses that fit pass the test
+pub onto-fit : (qs : List Mult) (Θ : Tele) (us : List Mult) → BindersFit Θ (use_of us) → binders_fit qs (drop (length Θ) us) ≡ true →
+    binders_fit (mults_onto qs Θ) us ≡ true
+onto-fit qs [] us f e = e
+onto-fit qs (b ∷ Θ) us f e =
+    let a : fits (usage_at (drop (length Θ) us) 0) b.0 ≡ true = is-fit _ _ (subst (λ m. m ≼ b.0) (sym (at_newest Θ us)) f.0) in
+    onto-fit (b.0 ∷ qs) Θ us f.1 (rw (a, drop-more (length Θ) us) e)
+  where
+    is-fit : (u q : Mult) → u ≼ q → fits u q ≡ true
+    is-fit u q h = grind arith

@@ -30,36 +30,37 @@ result-is : {Ξ Θ : Tele} {σ : ℕ → Term} {ts : Terms} {js : List Judged} {
 result-is (ParamsThenArgs.param a) = result-is a
 result-is (ParamsThenArgs.done a) = refl
 
+-- the parameters of a family at these indices
+abbrev pub front : Env → GlobalId → (ℕ → Term) → Terms → Terms
+front E f σ is = subs [] (push is σ) (above (length (family_at E f).indices) (length (family_at E f).params))
+
+abbrev pub self_parts : Env → GlobalId → Terms
+self_parts E f = above (length (family_at E f).indices) (length (family_at E f).params) +++ above 0 (length (family_at E f).indices)
+
+pub self-at : (E : Env) (f : GlobalId) (σ : ℕ → Term) (is : Terms) → size is ≡ length (family_at E f).indices →
+    subs [] (push is σ) (self_parts E f) ≡ front E f σ is +++ is
+self-at E f σ is e =
+    let x = length (family_at E f).indices in
+    subs-append (above x (length (family_at E f).params)) (above 0 x) (push is σ) ∙ ap (λ ts. front E f σ is +++ ts) (newest-are is σ x e)
+
+pub indices-counted : (E : Env) (f : GlobalId) (s : Term) (is : Terms) → size (is +++ (s ▸ ε)) ≡ length (fam_at E f).motive → size is ≡ length (family_at E f).indices
+indices-counted E f s is d = omega (arith, d, size-append is (s ▸ ε), motive-binds E f)
+
 module _ (E : Env) (bodies : BodiesClosed E) where
   -- a family's type has one list of indices
   indices-agree : (f : GlobalId) (σ : ℕ → Term) (is ks : Terms) → size is ≡ length (family_at E f).indices → size ks ≡ length (family_at E f).indices →
       Conv E (sub (push is σ) (self_of f (family_at E f))) (sub (push ks σ) (self_of f (family_at E f))) → Convs E is ks
-  indices-agree f σ is ks d e h = (convs-split (front is) (front ks) (sized is ∙ sym (sized ks)) (subst₂ (Convs E) (whole is d) (whole ks e) ((types_are_injective E bodies).families f f _ _ h).1)).1
-    where
-      k : ℕ
-      k = length (family_at E f).params
-
-      x : ℕ
-      x = length (family_at E f).indices
-
-      front : Terms → Terms
-      front is = subs [] (push is σ) (above x k)
-
-      sized : (is : Terms) → size (front is) ≡ size (above x k)
-      sized is = subs-size (above x k) [] (push is σ)
-
-      whole : (is : Terms) → size is ≡ x → subs [] (push is σ) (above x k +++ above 0 x) ≡ front is +++ is
-      whole is e = subs-append (above x k) (above 0 x) (push is σ) ∙ ap (λ ts. front is +++ ts) (newest-are is σ x e)
+  indices-agree f σ is ks d e h =
+      let k = above (length (family_at E f).indices) (length (family_at E f).params) in
+      (convs-split (front E f σ is) (front E f σ ks) (subs-size k [] (push is σ) ∙ sym (subs-size k [] (push ks σ)))
+      (subst₂ (Convs E) (self-at E f σ is d) (self-at E f σ ks e) ((types_are_injective E bodies).families f f _ _ h).1)).1
 
   one-motive : (f : GlobalId) (σ : ℕ → Term) (P s : Term) (is ks : Terms) → size (is +++ (s ▸ ε)) ≡ length (fam_at E f).motive → size (ks +++ (s ▸ ε)) ≡ length (fam_at E f).motive →
       Conv E (sub (push is σ) (fam_at E f).self) (sub (push ks σ) (fam_at E f).self) → Conv E (sub (push (is +++ (s ▸ ε)) var) P) (sub (push (ks +++ (s ▸ ε)) var) P)
   one-motive f σ P s is ks d e h =
       conv-fill bodies P (push (is +++ (s ▸ ε)) var) (push (ks +++ (s ▸ ε)) var)
-      (push-conv (convs-join (indices-agree f σ is ks (counted is d) (counted ks e) h)) var var (λ i. Conv.same))
+      (push-conv (convs-join (indices-agree f σ is ks (indices-counted E f s is d) (indices-counted E f s ks e) h)) var var (λ i. Conv.same))
     where
-      counted : (is : Terms) → size (is +++ (s ▸ ε)) ≡ length (fam_at E f).motive → size is ≡ length (family_at E f).indices
-      counted is d = omega (arith, d, size-append is (s ▸ ε), motive-binds E f)
-
       convs-join : {is ks : Terms} → Convs E is ks → Convs E (is +++ (s ▸ ε)) (ks +++ (s ▸ ε))
       convs-join Convs.none = convs-same (s ▸ ε)
       convs-join (Convs.more h hs) = Convs.more h (convs-join hs)

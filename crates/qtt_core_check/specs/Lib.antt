@@ -1,4 +1,5 @@
 pub mod FirstSpent
 pub mod WithUses
 pub mod Trapless
+pub mod SmallSorts
 pub mod Laws

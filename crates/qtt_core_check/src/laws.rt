@@ -2,7 +2,7 @@
 
 ghost use Rattle.qtt_term.specs.Signature.{Env};
 ghost use Rattle.qtt_term.specs.Contraction.{BodiesClosed};
-ghost use Rattle.qtt_core_check.specs.Laws.{EndingsAreSo, OneEnding, LargerBudgetsKeepEndings, InferIsSound, OneTypeAndUse};
+ghost use Rattle.qtt_core_check.specs.Laws.{EndingsAreSo, OneEnding, LargerBudgetsKeepEndings, InferIsSound, OneTypeAndUse, FailuresAreSo};
 ghost use Rattle.qtt_core_check.specs.WithUses.{ResultsCounted};
 ghost use Rattle.qtt_term.specs.Environment.{WellFormed};
 
@@ -31,4 +31,9 @@ pub fn infer_is_sound()
 /// A term has one type up to conversion, and, where no Trap stands in it, one use.
 pub fn one_type_and_use()
     ensures { (E : Env) → BodiesClosed E → OneTypeAndUse E }
+{}
+
+/// What fails is not accepted, and a term that has a type never fails where the judgement ends.
+pub fn failures_are_so()
+    ensures { (E : Env) → BodiesClosed E → ResultsCounted E → FailuresAreSo E }
 {}

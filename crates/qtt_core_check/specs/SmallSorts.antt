@@ -1,0 +1,16 @@
+-- Terms whose Sorts have a level of 32 bits, and so has the Sort above each.
+use Rattle.std.specs.Prelude.{◌<◌, ◌^◌, ◌-◌}
+use Rattle.qtt_term.specs.Term.{Form, Term, Terms, var, node, ε, ◌▸◌}
+
+abbrev pub IsSmall : Form → Type 0
+IsSmall (Form.sort l) = l < 2 ^ 32 - 1
+IsSmall _ = Unit {0}
+
+abbrev mutual
+  pub SmallSorts : Term → Type 0
+  SmallSorts (var i) = Unit {0}
+  SmallSorts (node F ts) = IsSmall F × AllSmallSorts ts
+
+  pub AllSmallSorts : Terms → Type 0
+  AllSmallSorts ε = Unit {0}
+  AllSmallSorts (t ▸ ts) = SmallSorts t × AllSmallSorts ts
