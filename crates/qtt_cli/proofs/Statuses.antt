@@ -103,7 +103,7 @@ failed_status s ending.Memory ends told is = absurd (not_both s 71 74 (omega ari
 told_front : (s : Seen) (status : ℕ) (line : List ℕ) → status ≢ 71 → Due s.words line → ReportsIn s status line → s.status ≡ 71 → TellsFront s.words s.err_before s.err_now
 told_front s status line other due (inl told) is = absurd (other (sym told.0 ∙ is))
 told_front s status line other due (inr (is_memory, inl front)) is = (line, due, front)
-told_front s status line other due (inr (is_memory, inr front)) is = (memory_line, Due.no_memory, front)
+told_front s status line other due (inr (is_memory, inr front)) is = (memory_line, Due.out_of_memory, front)
 
 pub memory_status : (s : Seen) (e : Ending) → EndsIn s e → FinishesIn s e → s.status ≡ 71 → PutsFront s.words s.texts s.out_before s.out_now × TellsFront s.words s.err_before s.err_now
 memory_status s ending.Ran ends told is = absurd (not_both s 0 71 (omega arith) told.0 is)
@@ -114,9 +114,9 @@ memory_status s (ending.Refused name) ends told is =
     (inl ends.1, told_front s 1 (not_yet_line name.now) (omega arith) (Due.refusal refused.read.asked_for) told is)
 memory_status s ending.VaultFailed ends told is =
     let asks = ends.1 in
-    (inl ends.2, told_front s 74 vault_line (omega arith) (Due.no_vault asks.1) told is)
+    (inl ends.2, told_front s 74 vault_line (omega arith) (Due.vault_fault asks.1) told is)
 memory_status s ending.OutputFailed ends told is =
     let puts = ends.1 in
     let accepted = puts.1 in
-    (inr puts, told_front s 74 output_line (omega arith) (Due.no_output accepted.read.asked_for) told is)
-memory_status s ending.Memory ends told is = (ends, (memory_line, Due.no_memory, told.1))
+    (inr puts, told_front s 74 output_line (omega arith) (Due.output_fault accepted.read.asked_for) told is)
+memory_status s ending.Memory ends told is = (ends, (memory_line, Due.out_of_memory, told.1))

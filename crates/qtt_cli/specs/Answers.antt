@@ -72,12 +72,12 @@ PutsFront words texts old new = Adds old new [] ⊎ ((ts : List (List ℕ)) × A
 
 -- the lines that may be due on err
 pub data Due (words : List (String Global)) : List ℕ → Type 0 where
-  no_memory : Due words memory_line
+  out_of_memory : Due words memory_line
   usage : asked words ≡ None → Due words usage_line
   absent : {name : List ℕ} → asked words ≡ Some name → Due words (absent_line name)
   refusal : {name : List ℕ} → asked words ≡ Some name → Due words (not_yet_line name)
-  no_vault : {name : List ℕ} → asked words ≡ Some name → Due words vault_line
-  no_output : {name : List ℕ} → asked words ≡ Some name → Due words output_line
+  vault_fault : {name : List ℕ} → asked words ≡ Some name → Due words vault_line
+  output_fault : {name : List ℕ} → asked words ≡ Some name → Due words output_line
 
 -- err gained a front of one line that may be due
 abbrev pub TellsFront : List (String Global) → Option (List ℕ) → Option (List ℕ) → Type 0

@@ -9,18 +9,18 @@ use Rattle.qtt_cli.specs.Smallest.{Smallest, output}
 use Rattle.qtt_cli.specs.Answers.{Texts, Read, Accepts, PutsFront, Tells, usage_line, absent_line, not_yet_line, vault_line, output_line, memory_line}
 
 -- out gained the output of this text, or its first bytes
-abbrev pub PutsAll : List ℕ → List ℕ → Option (List ℕ) → Option (List ℕ) → Type 0
-PutsAll name text old new = (ts : List (List ℕ)) × Smallest name text ts × Adds old new (output ts)
+abbrev pub GainsOutput : List ℕ → List ℕ → Option (List ℕ) → Option (List ℕ) → Type 0
+GainsOutput name text old new = (ts : List (List ℕ)) × Smallest name text ts × Adds old new (output ts)
 
-abbrev pub PutsFirst : List ℕ → List ℕ → Option (List ℕ) → Option (List ℕ) → Type 0
-PutsFirst name text old new = (ts : List (List ℕ)) × Smallest name text ts × AddsFront old new (output ts)
+abbrev pub GainsFront : List ℕ → List ℕ → Option (List ℕ) → Option (List ℕ) → Type 0
+GainsFront name text old new = (ts : List (List ℕ)) × Smallest name text ts × AddsFront old new (output ts)
 
--- how the run of this text may end, where a fault of out means this
+-- how the run of this text may end, where `fault` says that a fault of out rose
 abbrev pub EndsText : List ℕ → List ℕ → Type 0 → Option (List ℕ) → Option (List ℕ) → Ending → Type 0
-EndsText name text fault old new ending.Ran = PutsAll name text old new
+EndsText name text fault old new ending.Ran = GainsOutput name text old new
 EndsText name text fault old new (ending.Refused refused) = (refused.now ≡ name) × ((ts : List (List ℕ)) → ¬ Smallest name text ts) × Adds old new []
-EndsText name text fault old new ending.OutputFailed = fault × PutsFirst name text old new
-EndsText name text fault old new ending.Memory = Adds old new [] ⊎ PutsFirst name text old new
+EndsText name text fault old new ending.OutputFailed = fault × GainsFront name text old new
+EndsText name text fault old new ending.Memory = Adds old new [] ⊎ GainsFront name text old new
 EndsText name text fault old new _ = ⊥
 
 -- the words ask for a module whose text is of no smallest program
@@ -29,7 +29,7 @@ pub record IsRefused (words : List (String Global)) (texts : Texts) (name : List
   pub read : Read words texts name text
   pub none : (ts : List (List ℕ)) → ¬ Smallest name text ts
 
--- which faults mean an ending
+-- whether faults and misses of the vault, and faults of the output, rose
 pub record Faults : Type 1 where
   pub vault : Type 0
   pub miss : Type 0
