@@ -10,3 +10,5 @@ pub mod Rows
 pub mod PrimFormed
 pub mod Moves
 pub mod Components
+pub mod Order
+pub mod Entries

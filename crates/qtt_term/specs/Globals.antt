@@ -1,12 +1,41 @@
 -- The environment that the code's families and definitions stand for.
-use Rattle.std.specs.Prelude.{option_map, find}
+use Rattle.std.specs.Prelude.{List, map, Option, Some, None, option_map, is_none, IsTrue, Bool, true, ◌&&◌, eqb}
+use Rattle.std.specs.List.{list_all}
+use Rattle.qtt_base.specs.declared.place.GlobalId.{GlobalId}
+use Rattle.qtt_base.specs.declared.place.ModuleId.{ModuleId}
 use Rattle.qtt_term.specs.declared.globals.Globals.{Globals}
-use Rattle.qtt_term.specs.Term.{same_id}
 use Rattle.qtt_term.specs.Signature.{Env}
-use Rattle.qtt_term.specs.Items.{family, definition}
+use Rattle.qtt_term.specs.Keyed.{with_id, ids_differ}
+use Rattle.qtt_term.specs.Items.{FamilyEntry, DefinitionEntry, family_entry, definition_entry, family_id, definition_id, constructor_of, ids}
+
+-- the families and the definitions, each in the order of their ids
+abbrev pub families : Globals → List FamilyEntry
+families g = map family_entry g.families.items
+
+abbrev pub definitions : Globals → List DefinitionEntry
+definitions g = map definition_entry g.definitions.items
 
 abbrev pub env : Globals → Env
 env g = record {
-  family = λ f. option_map family (find (λ F. same_id F.id f) g.families.items);
-  definition = λ d. option_map definition (find (λ D. same_id D.id d) g.definitions.items);
+  family = λ f. option_map (λ e. e.family) (with_id family_id f (families g));
+  definition = λ d. option_map (λ e. e.definition) (with_id definition_id d (definitions g));
 }
+
+-- no item has this id
+abbrev pub is_absent : Globals → GlobalId → Bool
+is_absent g id =
+    is_none (with_id family_id id (families g)) && (is_none (constructor_of (families g) id) && is_none (with_id definition_id id (definitions g)))
+
+abbrev pub IsAbsent : Globals → GlobalId → Type 0
+IsAbsent g id = IsTrue (is_absent g id)
+
+-- a family whose ids differ, are of one module, and are not there
+pub record IsNew (g : Globals) (F : FamilyEntry) : Type 0 where
+  pub differ : IsTrue (ids_differ (ids F))
+  pub one_module : IsTrue (list_all (λ id. eqb id.module.0 F.id.module.0) (ids F))
+  pub absent : IsTrue (list_all (is_absent g) (ids F))
+
+-- the ids of one module, or all
+abbrev pub is_of : Option ModuleId → GlobalId → Bool
+is_of None id = true
+is_of (Some m) id = eqb id.module.0 m.0

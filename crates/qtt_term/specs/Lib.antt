@@ -22,3 +22,5 @@ pub mod Items
 pub mod Globals
 pub mod Answers
 pub mod Contexts
+pub mod Keyed
+pub mod Places

@@ -8,6 +8,7 @@ pub mod equality;
 pub mod examples;
 pub mod globals;
 pub mod items;
+mod keyed;
 pub mod laws;
 pub mod rule;
 pub mod shifting;

@@ -3,7 +3,7 @@
 ghost use Rattle.std.specs.Prelude.{◌≡◌};
 ghost use Rattle.qtt_term.specs.declared.term.TermError.TheVariants.{Memory};
 
-use qtt_base::GlobalId;
+use qtt_base::{GlobalId, MemoryError};
 use qtt_prims::{ActKind, Lit, Primitive};
 use qtt_usage::mult::Mult;
 use std::alloc::{AllocError, AllocFailed, Global};
@@ -29,6 +29,12 @@ impl<T: Drop> From<AllocFailed<T>> for TermError {
 
     fn from(_error: AllocFailed<T>) -> TermError {
         TermError::Memory
+    }
+}
+
+impl From<TermError> for MemoryError {
+    fn from(_error: TermError) -> MemoryError {
+        MemoryError
     }
 }
 
