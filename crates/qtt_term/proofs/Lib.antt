@@ -12,3 +12,4 @@ pub mod Moves
 pub mod Components
 pub mod Order
 pub mod Entries
+pub mod Constructors

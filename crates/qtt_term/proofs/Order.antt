@@ -1,15 +1,20 @@
 -- Lists in the order of ids: what a search finds there, and what a new element changes.
-use Rattle.std.proofs.Common.{◌≡◌, ℕ, zero, suc, ◌+◌, ◌<◌, ◌≤◌, List, [], ◌∷◌, ◌++◌, length, get_or, slice_get, take, drop, map, Option, Some, None, option_map, Bool, true, false, ◌&&◌, ◌||◌, cond, eqb, nat_lt, ◌⊎◌, inl, inr, refl, sym, ap, ◌∙◌, subst, arith, Ordering, Result, Ok, Err, IfOk, IfErr}
+use Rattle.std.proofs.Common.{◌≡◌, ℕ, zero, suc, ◌+◌, ◌<◌, ◌≤◌, List, [], ◌∷◌, ◌++◌, length, get_or, slice_get, take, drop, map, Option, Some, None, option_map, is_none, not, Bool, true, false, ◌&&◌, ◌||◌, cond, eqb, nat_lt, ◌⊎◌, inl, inr, refl, sym, ap, ◌∙◌, subst, arith, Ordering, Result, Ok, Err, IfOk, IfErr}
 use Rattle.std.specs.List.{list_all, insert, HoldsAt}
 use Rattle.std.specs.List.Sorted.{IsSearchInRange, IsBinarySearchResult, IsNonDecreasingBy, IsPartitionPoint}
 use Rattle.std.specs.Ordering.{ordering_index, MatchOrdering}
 use Rattle.std.specs.declared.cmp.Ordering.TheVariants.{Less, Equal, Greater}
 use Rattle.std.proofs.lemmas.Bool.{and_parts, and_from, ltb-true, ltb-false, eqb-true, eq-eqb}
 use Rattle.std.proofs.lemmas.Bool.Decides.{nat_tests}
+use Rattle.std.proofs.lemmas.Option.{slice_get-get_or}
+use Rattle.std.proofs.lemmas.List.{length-map}
+use Rattle.std.proofs.Math.ListN.{get_or-map, set}
 use mathlib.Core.Bool.{true≢false}
+use mathlib.Core.Path.{fun_ext}
 use Rattle.qtt_base.specs.declared.place.GlobalId.{GlobalId}
 use Rattle.qtt_term.specs.Term.{same_id}
-use Rattle.qtt_term.specs.Keyed.{id_before, ascends, with_id, inserted, all_inserted, IsPlaceOf, IsGapFor}
+use Rattle.qtt_term.specs.Keyed.{id_before, ascends, with_id, inserted, all_inserted, ids_differ, CanInsertAll, IsPlaceOf, IsGapFor}
+use Rattle.qtt_term.specs.Question.{either}
 use Rattle.qtt_term.proofs.Same.{same_id-is, id-same}
 
 -- ---- the order of ids
@@ -66,7 +71,7 @@ ascends-at key (x ∷ xs) (suc i) (suc j) d h lt in_range = ascends-at key xs i 
 found_first : {X : Type 0} (key : X → GlobalId) (id : GlobalId) (x : X) (xs : List X) → key x ≡ id → with_id key id (x ∷ xs) ≡ Some x
 found_first key id x xs e = ap (λ b. cond b (Some x) (with_id key id xs)) (ap (λ a. same_id a id) e ∙ id-same id)
 
-found_behind : {X : Type 0} (key : X → GlobalId) (id : GlobalId) (x : X) (xs : List X) → same_id (key x) id ≡ false → with_id key id (x ∷ xs) ≡ with_id key id xs
+pub found_behind : {X : Type 0} (key : X → GlobalId) (id : GlobalId) (x : X) (xs : List X) → same_id (key x) id ≡ false → with_id key id (x ∷ xs) ≡ with_id key id xs
 found_behind key id x xs e = ap (λ b. cond b (Some x) (with_id key id xs)) e
 
 found_at : {X : Type 0} (key : X → GlobalId) (xs : List X) (id : GlobalId) (i : ℕ) → ascends key xs ≡ true → i < length xs →
@@ -82,10 +87,10 @@ gap_absent : {X : Type 0} (key : X → GlobalId) (xs : List X) (id : GlobalId) �
 gap_absent key [] id h = refl
 gap_absent key (x ∷ xs) id h = found_behind key id x xs (h 0 x (omega arith)) ∙ gap_absent key xs id (λ k d lt. h (suc k) d (omega arith))
 
-inserted_here : {X : Type 0} (key : X → GlobalId) (x y : X) (ys : List X) → id_before (key x) (key y) ≡ true → inserted key x (y ∷ ys) ≡ x ∷ y ∷ ys
+pub inserted_here : {X : Type 0} (key : X → GlobalId) (x y : X) (ys : List X) → id_before (key x) (key y) ≡ true → inserted key x (y ∷ ys) ≡ x ∷ y ∷ ys
 inserted_here key x y ys e = ap (λ b. cond b (x ∷ y ∷ ys) (y ∷ inserted key x ys)) e
 
-inserted_behind : {X : Type 0} (key : X → GlobalId) (x y : X) (ys : List X) → id_before (key x) (key y) ≡ false → inserted key x (y ∷ ys) ≡ y ∷ inserted key x ys
+pub inserted_behind : {X : Type 0} (key : X → GlobalId) (x y : X) (ys : List X) → id_before (key x) (key y) ≡ false → inserted key x (y ∷ ys) ≡ y ∷ inserted key x ys
 inserted_behind key x y ys e = ap (λ b. cond b (x ∷ y ∷ ys) (y ∷ inserted key x ys)) e
 
 gap_inserted : {X : Type 0} (key : X → GlobalId) (xs : List X) (x : X) (i : ℕ) → i ≤ length xs →
@@ -178,7 +183,7 @@ all_before key a b (x ∷ xs) e h =
     and_from (id_before a (key x)) (list_all (λ y. id_before a (key y)) xs) (before-trans a b (key x) e parts.0) (all_before key a b xs e parts.1)
 
 -- an id that is not there is not that of the first element, and not behind it
-absent_first : {X : Type 0} (key : X → GlobalId) (id : GlobalId) (x : X) (xs : List X) → with_id key id (x ∷ xs) ≡ None → (same_id (key x) id ≡ false) × (with_id key id xs ≡ None)
+pub absent_first : {X : Type 0} (key : X → GlobalId) (id : GlobalId) (x : X) (xs : List X) → with_id key id (x ∷ xs) ≡ None → (same_id (key x) id ≡ false) × (with_id key id xs ≡ None)
 absent_first key id x xs e = by_test (same_id (key x) id) refl
   where
     by_test : (b : Bool) → same_id (key x) id ≡ b → (same_id (key x) id ≡ false) × (with_id key id xs ≡ None)
@@ -261,3 +266,144 @@ pub all_inserted-map : {X Y : Type 0} (f : X → Y) (key : Y → GlobalId) (xs y
 all_inserted-map f key [] ys = refl
 all_inserted-map f key (x ∷ xs) ys =
     all_inserted-map f key xs (inserted (λ y. key (f y)) x ys) ∙ ap (all_inserted key (map f xs)) (inserted-map f key x ys)
+
+-- ---- several more elements
+pub either-none : {A : Type 0} (o : Option A) → either o None ≡ o
+either-none None = refl
+either-none (Some a) = refl
+
+either-first : {A : Type 0} (b : Bool) (a : A) (o r : Option A) → either (cond b (Some a) o) r ≡ cond b (Some a) (either o r)
+either-first true a o r = refl
+either-first false a o r = refl
+
+-- what can be put in later has not the id of what is there
+later_absent : {X : Type 0} (key : X → GlobalId) (x : X) (zs ws : List X) → CanInsertAll key zs ws → with_id key (key x) ws ≡ Some x → with_id key (key x) zs ≡ None
+later_absent key x [] ws can there = refl
+later_absent key x (z ∷ zs) ws can there =
+    let after = with_id-inserted key z ws (key x) can.0 ∙ ap (λ b. cond b (Some z) (with_id key (key x) ws)) apart ∙ there in
+    found_behind key (key x) z zs apart ∙ later_absent key x zs (inserted key z ws) can.1 after
+  where
+    by_test : (b : Bool) → same_id (key z) (key x) ≡ b → same_id (key z) (key x) ≡ false
+    by_test true t = absurd (cc (sym there ∙ ap (λ a. with_id key a ws) (sym (same_id-is (key z) (key x) t)) ∙ can.0))
+    by_test false t = t
+
+    apart : same_id (key z) (key x) ≡ false
+    apart = by_test (same_id (key z) (key x)) refl
+
+pub with_id-all_inserted : {X : Type 0} (key : X → GlobalId) (xs ys : List X) (id : GlobalId) → CanInsertAll key xs ys →
+    with_id key id (all_inserted key xs ys) ≡ either (with_id key id xs) (with_id key id ys)
+with_id-all_inserted key [] ys id can = refl
+with_id-all_inserted key (x ∷ xs) ys id can =
+    with_id-all_inserted key xs (inserted key x ys) id can.1 ∙ ap (either (with_id key id xs)) (with_id-inserted key x ys id can.0)
+    ∙ swapped (same_id (key x) id) refl
+  where
+    here : with_id key (key x) (inserted key x ys) ≡ Some x
+    here = with_id-inserted key x ys (key x) can.0 ∙ ap (λ b. cond b (Some x) (with_id key (key x) ys)) (id-same (key x))
+
+    swapped : (b : Bool) → same_id (key x) id ≡ b →
+        either (with_id key id xs) (cond (same_id (key x) id) (Some x) (with_id key id ys)) ≡ either (cond (same_id (key x) id) (Some x) (with_id key id xs)) (with_id key id ys)
+    swapped true e =
+        let none = ap (λ a. with_id key a xs) (sym (same_id-is (key x) id e)) ∙ later_absent key x xs (inserted key x ys) can.1 here in
+        ap (λ o. either o (cond (same_id (key x) id) (Some x) (with_id key id ys))) none ∙ ap (λ b. cond b (Some x) (with_id key id ys)) e
+        ∙ sym (ap (λ b. either (cond b (Some x) (with_id key id xs)) (with_id key id ys)) e)
+    swapped false e =
+        ap (λ b. either (with_id key id xs) (cond b (Some x) (with_id key id ys))) e ∙ sym (ap (λ b. either (cond b (Some x) (with_id key id xs)) (with_id key id ys)) e)
+
+pub ascends-all_inserted : {X : Type 0} (key : X → GlobalId) (xs ys : List X) → ascends key ys ≡ true → CanInsertAll key xs ys → ascends key (all_inserted key xs ys) ≡ true
+ascends-all_inserted key [] ys up can = up
+ascends-all_inserted key (x ∷ xs) ys up can = ascends-all_inserted key xs (inserted key x ys) (ascends-inserted key x ys up can.0) can.1
+
+pub none_is : {A : Type 0} (o : Option A) → is_none o ≡ true → o ≡ None
+none_is None e = refl
+none_is (Some a) e = absurd (cc e)
+
+pub is-none : {A : Type 0} (o : Option A) → o ≡ None → is_none o ≡ true
+is-none o e = ap is_none e
+
+pub not_true : (b : Bool) → not b ≡ true → b ≡ false
+not_true true e = absurd (cc e)
+not_true false e = refl
+
+still_absent : {X : Type 0} (key : X → GlobalId) (x : X) (xs ys : List X) → with_id key (key x) ys ≡ None → list_all (λ b. not (same_id (key x) b)) (map key xs) ≡ true →
+    list_all (λ z. is_none (with_id key (key z) ys)) xs ≡ true → list_all (λ z. is_none (with_id key (key z) (inserted key x ys))) xs ≡ true
+still_absent key x [] ys new_id apart absent = refl
+still_absent key x (z ∷ zs) ys new_id apart absent =
+    let aparts = and_parts (not (same_id (key x) (key z))) (list_all (λ b. not (same_id (key x) b)) (map key zs)) apart in
+    let parts = and_parts (is_none (with_id key (key z) ys)) (list_all (λ w. is_none (with_id key (key w) ys)) zs) absent in
+    let here =
+        with_id-inserted key x ys (key z) new_id ∙ ap (λ b. cond b (Some x) (with_id key (key z) ys)) (not_true (same_id (key x) (key z)) aparts.0)
+        ∙ none_is (with_id key (key z) ys) parts.0 in
+    and_from (is_none (with_id key (key z) (inserted key x ys))) (list_all (λ w. is_none (with_id key (key w) (inserted key x ys))) zs)
+    (is-none (with_id key (key z) (inserted key x ys)) here) (still_absent key x zs ys new_id aparts.1 parts.1)
+
+-- elements whose ids differ and are not there
+pub can_insert_all : {X : Type 0} (key : X → GlobalId) (xs ys : List X) → ids_differ (map key xs) ≡ true →
+    list_all (λ x. is_none (with_id key (key x) ys)) xs ≡ true → CanInsertAll key xs ys
+can_insert_all key [] ys differ absent = tt
+can_insert_all key (x ∷ xs) ys differ absent =
+    let apart = and_parts (list_all (λ b. not (same_id (key x) b)) (map key xs)) (ids_differ (map key xs)) differ in
+    let parts = and_parts (is_none (with_id key (key x) ys)) (list_all (λ z. is_none (with_id key (key z) ys)) xs) absent in
+    let here = none_is (with_id key (key x) ys) parts.0 in
+    (here, can_insert_all key xs (inserted key x ys) apart.1 (still_absent key x xs ys here apart.0 parts.1))
+
+-- ascending ids differ
+pub ascending-differ : {X : Type 0} (key : X → GlobalId) (xs : List X) → ascends key xs ≡ true → ids_differ (map key xs) ≡ true
+ascending-differ key [] up = refl
+ascending-differ {X = X} key (x ∷ xs) up =
+    let parts = and_parts (list_all (λ y. id_before (key x) (key y)) xs) (ascends key xs) up in
+    and_from (list_all (λ b. not (same_id (key x) b)) (map key xs)) (ids_differ (map key xs)) (apart x xs parts.0) (ascending-differ key xs parts.1)
+  where
+    apart : (z : X) (zs : List X) → list_all (λ y. id_before (key z) (key y)) zs ≡ true → list_all (λ b. not (same_id (key z) b)) (map key zs) ≡ true
+    apart z [] h = refl
+    apart z (w ∷ ws) h =
+        let parts = and_parts (id_before (key z) (key w)) (list_all (λ y. id_before (key z) (key y)) ws) h in
+        and_from (not (same_id (key z) (key w))) (list_all (λ b. not (same_id (key z) b)) (map key ws)) (ap not (before-differs (key z) (key w) parts.0)) (apart z ws parts.1)
+
+-- ---- one element changed
+pub has_id : {X : Type 0} (key : X → GlobalId) (id : GlobalId) (xs : List X) (x : X) → with_id key id xs ≡ Some x → key x ≡ id
+has_id key id [] x e = absurd (cc e)
+has_id {X = X} key id (y ∷ ys) x e = by_test (same_id (key y) id) refl (has_id key id ys x)
+  where
+    by_test : (b : Bool) → same_id (key y) id ≡ b → (with_id key id ys ≡ Some x → key x ≡ id) → key x ≡ id
+    by_test true t rest =
+        let first : Some y ≡ Some x = sym (ap (λ b. cond b (Some y) (with_id key id ys)) t) ∙ e in
+        let same : y ≡ x = cc first in
+        ap key (sym same) ∙ same_id-is (key y) id t
+    by_test false t rest = rest (sym (found_behind key id y ys t) ∙ e)
+
+pub place_has_id : {X : Type 0} (key : X → GlobalId) (id : GlobalId) (xs : List X) (i : ℕ) (d : X) → IsPlaceOf key id xs i → key (get_or xs i d) ≡ id
+place_has_id key id xs i d h = has_id key id xs (get_or xs i d) (h.there ∙ slice_get-get_or xs i d h.in_range)
+
+-- the elements, with h at those of this id
+abbrev pub changed : {Y : Type 0} → (Y → GlobalId) → GlobalId → (Y → Y) → Y → Y
+changed key id h e = cond (same_id (key e) id) (h e) e
+
+none_changed : {Y : Type 0} (key : Y → GlobalId) (id : GlobalId) (h : Y → Y) (ys : List Y) → list_all (λ y. id_before id (key y)) ys ≡ true → map (changed key id h) ys ≡ ys
+none_changed key id h [] up = refl
+none_changed key id h (y ∷ ys) up =
+    let parts = and_parts (id_before id (key y)) (list_all (λ z. id_before id (key z)) ys) up in
+    ap (λ b. cond b (h y) y ∷ map (changed key id h) ys) (after-differs id (key y) parts.0) ∙ ap (λ zs. y ∷ zs) (none_changed key id h ys parts.1)
+
+pub set-changed : {X Y : Type 0} (f : X → Y) (key : Y → GlobalId) (id : GlobalId) (h : Y → Y) (xs : List X) (i : ℕ) (x : X) → ascends key (map f xs) ≡ true → i < length xs →
+    ((d : X) → key (f (get_or xs i d)) ≡ id) → ((d : X) → f x ≡ h (f (get_or xs i d))) → map f (set xs i x) ≡ map (changed key id h) (map f xs)
+set-changed f key id h [] i x up lt here is = absurd (omega arith)
+set-changed f key id h (y ∷ ys) zero x up lt here is =
+    let parts = and_parts (list_all (λ z. id_before (key (f y)) (key z)) (map f ys)) (ascends key (map f ys)) up in
+    let others = none_changed key id h (map f ys) (subst (λ a. list_all (λ z. id_before a (key z)) (map f ys) ≡ true) (here y) parts.0) in
+    let test = ap (λ a. same_id a id) (here y) ∙ id-same id in
+    ap (λ z. z ∷ map f ys) (is y) ∙ sym (ap (λ b. cond b (h (f y)) (f y) ∷ map f ys) test) ∙ sym (ap (λ zs. changed key id h (f y) ∷ zs) others)
+set-changed f key id h (y ∷ ys) (suc i) x up lt here is =
+    let parts = and_parts (list_all (λ z. id_before (key (f y)) (key z)) (map f ys)) (ascends key (map f ys)) up in
+    let room : i < length (map f ys) = omega (arith, length-map ys f) in
+    let before = all-at (λ z. id_before (key (f y)) (key z)) (map f ys) i (f y) parts.0 room in
+    let at = get_or-map f ys i y in
+    let first = subst (λ a. id_before (key (f y)) a ≡ true) (ap key at ∙ here y) before in
+    ap (λ zs. f y ∷ zs) (set-changed f key id h ys i x parts.1 (omega arith) here is)
+    ∙ sym (ap (λ b. cond b (h (f y)) (f y) ∷ map (changed key id h) (map f ys)) (before-differs (key (f y)) id first))
+
+pub ascends-changed : {Y : Type 0} (key : Y → GlobalId) (id : GlobalId) (h : Y → Y) (ys : List Y) → ((y : Y) → key (h y) ≡ key y) → ascends key (map (changed key id h) ys) ≡ ascends key ys
+ascends-changed {Y = Y} key id h ys keeps = ascends-map (changed key id h) key ys ∙ ap (λ k. ascends k ys) (fun_ext λ y. at (same_id (key y) id) y)
+  where
+    at : (b : Bool) (y : Y) → key (cond b (h y) y) ≡ key y
+    at true y = keeps y
+    at false y = refl

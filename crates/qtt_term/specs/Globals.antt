@@ -1,5 +1,5 @@
 -- The environment that the code's families and definitions stand for.
-use Rattle.std.specs.Prelude.{List, map, Option, Some, None, option_map, is_none, IsTrue, Bool, true, ◌&&◌, eqb}
+use Rattle.std.specs.Prelude.{◌≡◌, List, map, Option, Some, None, option_map, is_none, IsTrue, Bool, true, ◌&&◌, eqb}
 use Rattle.std.specs.List.{list_all}
 use Rattle.qtt_base.specs.declared.place.GlobalId.{GlobalId}
 use Rattle.qtt_base.specs.declared.place.ModuleId.{ModuleId}
@@ -34,6 +34,10 @@ pub record IsNew (g : Globals) (F : FamilyEntry) : Type 0 where
   pub differ : IsTrue (ids_differ (ids F))
   pub one_module : IsTrue (list_all (λ id. eqb id.module.0 F.id.module.0) (ids F))
   pub absent : IsTrue (list_all (is_absent g) (ids F))
+
+-- a definition has this id, and it has no body
+abbrev pub IsOpen : Globals → GlobalId → Type 0
+IsOpen g id = option_map (λ e. e.definition.body) (with_id definition_id id (definitions g)) ≡ Some None
 
 -- the ids of one module, or all
 abbrev pub is_of : Option ModuleId → GlobalId → Bool

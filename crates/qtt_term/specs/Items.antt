@@ -71,6 +71,18 @@ family_id F = F.id
 abbrev pub definition_id : DefinitionEntry → GlobalId
 definition_id d = d.id
 
+-- a definition without a body
+abbrev pub signature_entry : GlobalId → List ℕ → Mult → Term → DefinitionEntry
+signature_entry i n q T = record { id = i; name = n; definition = record { mult = q; type = T; body = None } }
+
+-- the same with this body
+abbrev pub given_body : Term → DefinitionEntry → DefinitionEntry
+given_body b d = record { id = d.id; name = d.name; definition = record { mult = d.definition.mult; type = d.definition.type; body = Some b } }
+
+-- the definition of this id with this body
+abbrev pub with_body : GlobalId → Term → List DefinitionEntry → List DefinitionEntry
+with_body i b = map (λ d. cond (same_id d.id i) (given_body b d) d)
+
 -- ---- constructors by their ids
 -- the constructor of this id among those of family f from place n on
 abbrev pub constructor_from : GlobalId → ℕ → List ConstructorEntry → GlobalId → Option ConId

@@ -1,13 +1,13 @@
 //! The environment: families with their constructors, and definitions.
 
-ghost use Rattle.std.specs.Prelude.{◌≡◌, map, IsTrue};
+ghost use Rattle.std.specs.Prelude.{◌≡◌, ◌<◌, ◌^◌, length, map, IsTrue, IfOk};
 ghost use Rattle.qtt_base.specs.declared.place.GlobalId.{GlobalId};
 ghost use Rattle.qtt_term.specs.Keyed.{ascends};
-ghost use Rattle.qtt_term.specs.Items.{family_entry, definition_entry, family_id, definition_id, constructor_of, constructors_differ as differ};
-ghost use Rattle.qtt_term.specs.Places.{place_id, place_of};
+ghost use Rattle.qtt_term.specs.Items.{constructor_entry, family_entry, definition_entry, family_id, definition_id, constructor_of, constructors_differ as differ};
+ghost use Rattle.qtt_term.specs.Places.{place_id, place_of, places_from};
 
 use crate::items::{Definition, Family};
-use crate::keyed::{Keyed, find, place, place_all};
+use crate::keyed::{Keyed, find, place, place_all, search};
 use crate::term::{ConId, Term};
 use qtt_base::{GlobalId, MemoryError, ModuleId, Name};
 use qtt_usage::mult::Mult;
@@ -58,11 +58,70 @@ impl Keyed for Place {
 }
 
 impl Globals {
-    ghost use Rattle.std.specs.Prelude.{◌<◌, ◌^◌, [], length, Some, None, IfOk, OnOk, OnErr, IfSome, IfNone, option_map, ◌⊎◌};
+    ghost use Rattle.std.specs.Prelude.{[], Some, None, IsOk, OnOk, OnErr, IfSome, IfNone, option_map, ◌⊎◌};
     ghost use Rattle.std.specs.List.{filter};
     ghost use Rattle.qtt_term.specs.Keyed.{with_id, inserted, all_inserted};
-    ghost use Rattle.qtt_term.specs.Items.{family as family_of, definition as definition_of};
-    ghost use Rattle.qtt_term.specs.Globals.{families as families_of, definitions as definitions_of, env, IsNew, IsAbsent, is_of};
+    ghost use Rattle.qtt_term.specs.Items.{family as family_of, definition as definition_of, signature_entry, with_body};
+    ghost use Rattle.qtt_term.specs.Globals.{families as families_of, definitions as definitions_of, env, IsNew, IsAbsent, IsOpen, is_of};
+    ghost use Rattle.qtt_term.specs.Substitution.{Closed};
+    ghost use Rattle.qtt_term.specs.View.{term};
+
+    /// Adds a family. Its constructors are numbered by a `u32`.
+    pub fn add_family(&mut self, alloc: Global, family: Family) -> Result<(), MemoryError>
+        requires count { length family.constructors.items < 2 ^ 32 }
+        requires new_ids { IsNew self.old (family_entry family) }
+        ensures ok { OnOk result (families_of self.new ≡ inserted family_id (family_entry family) (families_of self.old)) }
+        ensures err { OnErr result (families_of self.new ≡ families_of self.old) }
+        ensures definitions { definitions_of self.new ≡ definitions_of self.old }
+    {
+        let places = places_of(alloc, &family)?;
+        self.places.reserve(places.len())?;
+        self.families.reserve(1)?;
+        place_all(&mut self.places, places);
+        place(&mut self.families, family);
+        Ok(())
+    }
+
+    /// Adds a definition without a body.
+    pub fn add_signature(
+        &mut self,
+        id: GlobalId,
+        name: Name,
+        mult: Mult,
+        ty: Term,
+    ) -> Result<(), MemoryError>
+        requires { IsAbsent self.old id }
+        ensures ok { OnOk result (definitions_of self.new ≡ inserted definition_id (signature_entry id name mult (term ty)) (definitions_of self.old)) }
+        ensures err { OnErr result (definitions_of self.new ≡ definitions_of self.old) }
+        ensures families { families_of self.new ≡ families_of self.old }
+    {
+        self.definitions.reserve(1)?;
+        let definition = Definition {
+            id,
+            name,
+            mult,
+            ty,
+            body: None,
+        };
+        place(&mut self.definitions, definition);
+        Ok(())
+    }
+
+    /// Gives a definition its body.
+    pub fn set_body(&mut self, id: GlobalId, body: Term) -> Result<(), MemoryError>
+        requires open { IsOpen self.old id }
+        requires closed { Closed (term body) }
+        ensures ok { IsOk result }
+        ensures definitions { definitions_of self.new ≡ with_body id (term body) (definitions_of self.old) }
+        ensures families { families_of self.new ≡ families_of self.old }
+    {
+        let at = match search(&self.definitions, id) {
+            Ok(at) => at,
+            Err(_) => unreachable!(),
+        };
+        self.definitions[at].body = Some(body);
+        Ok(())
+    }
 
     /// The family of this id.
     pub fn family(&self, id: GlobalId) -> Option<&Family>
@@ -87,4 +146,22 @@ impl Globals {
     {
         &self.definitions
     }
+}
+
+/// Where the constructors of a family stand.
+fn places_of(alloc: Global, family: &Family) -> Result<Vec<Place>, MemoryError>
+    requires { length family.now.constructors.items < 2 ^ 32 }
+    ensures { IfOk result (λ v. v.items ≡ places_from family.now.id 0 (map constructor_entry family.now.constructors.items)) }
+{
+    let mut places = Vec::with_capacity(alloc, family.constructors.len())?;
+    for (place, constructor) in family.constructors.iter().enumerate() {
+        places.push(Place {
+            id: constructor.id,
+            con: ConId {
+                family: family.id,
+                place: place as u32,
+            },
+        })?;
+    }
+    Ok(places)
 }

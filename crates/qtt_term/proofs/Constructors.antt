@@ -1,0 +1,175 @@
+-- Where constructors stand, as families come in.
+use Rattle.std.proofs.Common.{◌≡◌, ℕ, zero, suc, ◌+◌, ◌<◌, List, [], ◌∷◌, ◌++◌, length, get_or, map, Option, Some, None, option_map, is_none, not, Bool, true, false, ◌&&◌, cond, ◌⊎◌, inl, inr, refl, sym, ap, ◌∙◌, subst, arith}
+use Rattle.std.specs.List.{list_all}
+use Rattle.std.proofs.lemmas.Bool.{and_parts, and_from}
+use Rattle.std.proofs.lemmas.List.Sums.{AllPass-from_list_all, list_all-from_AllPass}
+use Rattle.qtt_base.specs.declared.place.GlobalId.{GlobalId}
+use Rattle.qtt_term.specs.declared.term.ConId.{ConId}
+use Rattle.qtt_term.specs.declared.globals.Place.{Place}
+use Rattle.qtt_term.specs.Term.{same_id}
+use Rattle.qtt_term.specs.Question.{either}
+use Rattle.qtt_term.specs.Keyed.{id_before, ascends, with_id, inserted, all_inserted, ids_differ, CanInsertAll}
+use Rattle.qtt_term.specs.Items.{ConstructorEntry, FamilyEntry, constructor_id, family_id, constructor_from, constructor_in, constructor_of, constructors_differ}
+use Rattle.qtt_term.specs.Places.{place_id, place_of, places_from}
+use Rattle.qtt_term.proofs.Same.{same_id-is, id-same}
+use Rattle.qtt_term.proofs.Order.{with_id-all_inserted, none_is, is-none, not_true, inserted_here, inserted_behind}
+
+-- ---- the places of one family's constructors
+pub place_of-places_from : (f : GlobalId) (n : ℕ) (cs : List ConstructorEntry) (id : GlobalId) → place_of (places_from f n cs) id ≡ constructor_from f n cs id
+place_of-places_from f n [] id = refl
+place_of-places_from f n (c ∷ cs) id = by_test (same_id c.id id) refl (place_of-places_from f (suc n) cs id)
+  where
+    here : Place
+    here = record { id = c.id; con = record { family = f; place = n } }
+
+    by_test : (b : Bool) → same_id c.id id ≡ b → place_of (places_from f (suc n) cs) id ≡ constructor_from f (suc n) cs id →
+        place_of (places_from f n (c ∷ cs)) id ≡ constructor_from f n (c ∷ cs) id
+    by_test true e rest =
+        ap (λ b. option_map (λ p. p.con) (cond b (Some here) (with_id place_id id (places_from f (suc n) cs)))) e
+        ∙ sym (ap (λ b. cond b (Some here.con) (constructor_from f (suc n) cs id)) e)
+    by_test false e rest =
+        ap (λ b. option_map (λ p. p.con) (cond b (Some here) (with_id place_id id (places_from f (suc n) cs)))) e ∙ rest
+        ∙ sym (ap (λ b. cond b (Some here.con) (constructor_from f (suc n) cs id)) e)
+
+pub places_from-ids : (f : GlobalId) (n : ℕ) (cs : List ConstructorEntry) → map place_id (places_from f n cs) ≡ map constructor_id cs
+places_from-ids f n [] = refl
+places_from-ids f n (c ∷ cs) = ap (λ is. c.id ∷ is) (places_from-ids f (suc n) cs)
+
+pub places_from-more : (f : GlobalId) (n : ℕ) (cs : List ConstructorEntry) (c : ConstructorEntry) →
+    places_from f n (cs ++ c ∷ []) ≡ places_from f n cs ++ record { id = c.id; con = record { family = f; place = n + length cs } } ∷ []
+places_from-more f n [] c =
+    let e : n ≡ n + 0 = omega arith in
+    ap (λ k. record { id = c.id; con = record { family = f; place = k } } ∷ []) e
+places_from-more f n (d ∷ cs) c =
+    let e : suc n + length cs ≡ n + length (d ∷ cs) = omega arith in
+    ap (λ ps. record { id = d.id; con = record { family = f; place = n } } ∷ ps)
+    (places_from-more f (suc n) cs c ∙ ap (λ k. places_from f (suc n) cs ++ record { id = c.id; con = record { family = f; place = k } } ∷ []) e)
+
+map-either : {A B : Type 0} (f : A → B) (o r : Option A) → option_map f (either o r) ≡ either (option_map f o) (option_map f r)
+map-either f None r = refl
+map-either f (Some a) r = refl
+
+pub place_of-all_inserted : (ps qs : List Place) (id : GlobalId) → CanInsertAll place_id ps qs →
+    place_of (all_inserted place_id ps qs) id ≡ either (place_of ps id) (place_of qs id)
+place_of-all_inserted ps qs id can =
+    ap (option_map (λ p. p.con)) (with_id-all_inserted place_id ps qs id can) ∙ map-either (λ p. p.con) (with_id place_id id ps) (with_id place_id id qs)
+
+pub no_place : (ps : List Place) (id : GlobalId) → place_of ps id ≡ None → with_id place_id id ps ≡ None
+no_place ps id e = by_case (with_id place_id id ps) e
+  where
+    by_case : (o : Option Place) → option_map (λ p. p.con) o ≡ None → o ≡ None
+    by_case None h = refl
+    by_case (Some p) h = absurd (cc h)
+
+-- the places of constructors that are not there can be put in
+pub can_place : (f : GlobalId) (n : ℕ) (cs : List ConstructorEntry) (ps : List Place) (Fs : List FamilyEntry) → ((id : GlobalId) → place_of ps id ≡ constructor_of Fs id) →
+    list_all (λ c. is_none (constructor_of Fs c.id)) cs ≡ true → list_all (λ p. is_none (with_id place_id (place_id p) ps)) (places_from f n cs) ≡ true
+can_place f n [] ps Fs are absent = refl
+can_place f n (c ∷ cs) ps Fs are absent =
+    let parts = and_parts (is_none (constructor_of Fs c.id)) (list_all (λ d. is_none (constructor_of Fs d.id)) cs) absent in
+    let here = no_place ps c.id (are c.id ∙ none_is (constructor_of Fs c.id) parts.0) in
+    and_from (is_none (with_id place_id c.id ps)) (list_all (λ p. is_none (with_id place_id (place_id p) ps)) (places_from f (suc n) cs))
+    (is-none (with_id place_id c.id ps) here) (can_place f (suc n) cs ps Fs are parts.1)
+
+-- ---- no constructor of two families
+-- an id is no constructor's of the one, or none of the others
+abbrev pub Apart : FamilyEntry → List FamilyEntry → Type 0
+Apart F Fs = (id : GlobalId) → (constructor_in F id ≡ None) ⊎ (constructor_of Fs id ≡ None)
+
+either_none : {A : Type 0} (o r : Option A) → either o r ≡ None → (o ≡ None) × (r ≡ None)
+either_none None r e = (refl, e)
+either_none (Some a) r e = absurd (cc e)
+
+apart_first : (F G : FamilyEntry) (Gs : List FamilyEntry) → Apart F (G ∷ Gs) → Apart F Gs
+apart_first F G Gs h id = elim (h id) [ inl e ↦ inl e | inr e ↦ inr (either_none (constructor_in G id) (constructor_of Gs id) e).1 ]
+
+pub constructor_of-inserted : (F : FamilyEntry) (Fs : List FamilyEntry) (id : GlobalId) → Apart F Fs →
+    constructor_of (inserted family_id F Fs) id ≡ either (constructor_in F id) (constructor_of Fs id)
+constructor_of-inserted F [] id h = refl
+constructor_of-inserted F (G ∷ Gs) id h = by_order (id_before F.id G.id) refl (constructor_of-inserted F Gs id (apart_first F G Gs h))
+  where
+    swapped : {A : Type 0} (a b c : Option A) → ((a ≡ None) ⊎ (either b c ≡ None)) → either b (either a c) ≡ either a (either b c)
+    swapped None b c h = refl
+    swapped (Some x) None c h = refl
+    swapped (Some x) (Some y) c h = elim h [ inl e ↦ absurd (cc e) | inr e ↦ absurd (cc e) ]
+
+    by_order : (b : Bool) → id_before F.id G.id ≡ b → constructor_of (inserted family_id F Gs) id ≡ either (constructor_in F id) (constructor_of Gs id) →
+        constructor_of (inserted family_id F (G ∷ Gs)) id ≡ either (constructor_in F id) (constructor_of (G ∷ Gs) id)
+    by_order true e rest = ap (λ Hs. constructor_of Hs id) (inserted_here family_id F G Gs e)
+    by_order false e rest =
+        ap (λ Hs. constructor_of Hs id) (inserted_behind family_id F G Gs e) ∙ ap (either (constructor_in G id)) rest
+        ∙ swapped (constructor_in F id) (constructor_in G id) (constructor_of Gs id) (h id)
+
+-- constructors that are not there
+apart_from : (f : GlobalId) (n : ℕ) (cs : List ConstructorEntry) (Fs : List FamilyEntry) (id : GlobalId) → list_all (λ c. is_none (constructor_of Fs c.id)) cs ≡ true →
+    (constructor_from f n cs id ≡ None) ⊎ (constructor_of Fs id ≡ None)
+apart_from f n [] Fs id absent = inl refl
+apart_from f n (c ∷ cs) Fs id absent =
+    let parts = and_parts (is_none (constructor_of Fs c.id)) (list_all (λ d. is_none (constructor_of Fs d.id)) cs) absent in
+    by_test (same_id c.id id) refl (none_is (constructor_of Fs c.id) parts.0) (apart_from f (suc n) cs Fs id parts.1)
+  where
+    by_test : (b : Bool) → same_id c.id id ≡ b → constructor_of Fs c.id ≡ None → ((constructor_from f (suc n) cs id ≡ None) ⊎ (constructor_of Fs id ≡ None)) →
+        (constructor_from f n (c ∷ cs) id ≡ None) ⊎ (constructor_of Fs id ≡ None)
+    by_test true e here rest = inr (ap (constructor_of Fs) (sym (same_id-is c.id id e)) ∙ here)
+    by_test false e here rest = elim rest [
+      | inl h ↦ inl (ap (λ b. cond b (Some (record { family = f; place = n })) (constructor_from f (suc n) cs id)) e ∙ h)
+      | inr h ↦ inr h
+    ]
+
+pub apart : (F : FamilyEntry) (Fs : List FamilyEntry) → list_all (λ c. is_none (constructor_of Fs c.id)) F.constructors ≡ true → Apart F Fs
+apart F Fs absent id = apart_from F.id 0 F.constructors Fs id absent
+
+-- a family has its own constructors
+own_at : (f : GlobalId) (n : ℕ) (cs : List ConstructorEntry) (k : ℕ) (d : ConstructorEntry) → k < length cs → constructor_from f n cs (constructor_id (get_or cs k d)) ≡ None → ⊥
+own_at f n [] k d lt e = absurd (omega arith)
+own_at f n (c ∷ cs) zero d lt e =
+    absurd (cc (ap (λ b. cond b (Some (record { family = f; place = n })) (constructor_from f (suc n) cs c.id)) (sym (id-same c.id)) ∙ e))
+own_at f n (c ∷ cs) (suc k) d lt e = behind (same_id c.id (constructor_id (get_or cs k d))) e (own_at f (suc n) cs k d (omega arith))
+  where
+    behind : (b : Bool) → cond b (Some (record { family = f; place = n })) (constructor_from f (suc n) cs (constructor_id (get_or cs k d))) ≡ None →
+        (constructor_from f (suc n) cs (constructor_id (get_or cs k d)) ≡ None → ⊥) → ⊥
+    behind true h never = absurd (cc h)
+    behind false h never = never h
+
+pub differ-inserted : (F : FamilyEntry) (Fs : List FamilyEntry) → constructors_differ Fs ≡ true → ids_differ (map constructor_id F.constructors) ≡ true →
+    list_all (λ c. is_none (constructor_of Fs c.id)) F.constructors ≡ true → Apart F Fs → constructors_differ (inserted family_id F Fs) ≡ true
+differ-inserted F [] differ own absent h =
+    and_from (ids_differ (map constructor_id F.constructors)) (list_all (λ c. is_none (constructor_of [] c.id)) F.constructors && true) own
+    (and_from (list_all (λ c. is_none (constructor_of [] c.id)) F.constructors) true absent refl)
+differ-inserted F (G ∷ Gs) differ own absent h =
+    let parts = and_parts (ids_differ (map constructor_id G.constructors)) (list_all (λ c. is_none (constructor_of Gs c.id)) G.constructors && constructors_differ Gs) differ in
+    let rest = and_parts (list_all (λ c. is_none (constructor_of Gs c.id)) G.constructors) (constructors_differ Gs) parts.1 in
+    by_order (id_before F.id G.id) refl parts.0 rest.0
+    (differ-inserted F Gs rest.1 own (list_all-from_AllPass (λ c. is_none (constructor_of Gs c.id)) F.constructors (λ k d lt. still k d lt)) (apart_first F G Gs h))
+  where
+    still : (k : ℕ) (d : ConstructorEntry) → k < length F.constructors → is_none (constructor_of Gs (constructor_id (get_or F.constructors k d))) ≡ true
+    still k d lt =
+        let id = constructor_id (get_or F.constructors k d) in
+        let all = none_is (constructor_of (G ∷ Gs) id) (AllPass-from_list_all (λ c. is_none (constructor_of (G ∷ Gs) c.id)) F.constructors absent k d lt) in
+        is-none (constructor_of Gs id) (either_none (constructor_in G id) (constructor_of Gs id) all).1
+
+    not_new : (k : ℕ) (d : ConstructorEntry) → k < length G.constructors → constructor_in F (constructor_id (get_or G.constructors k d)) ≡ None
+    not_new k d lt =
+        let id = constructor_id (get_or G.constructors k d) in
+        elim (h id) [
+          | inl e ↦ e
+          | inr e ↦ absurd (own_at G.id 0 G.constructors k d lt (either_none (constructor_in G id) (constructor_of Gs id) e).0)
+        ]
+
+    by_order : (b : Bool) → id_before F.id G.id ≡ b → ids_differ (map constructor_id G.constructors) ≡ true →
+        list_all (λ c. is_none (constructor_of Gs c.id)) G.constructors ≡ true → constructors_differ (inserted family_id F Gs) ≡ true →
+        constructors_differ (inserted family_id F (G ∷ Gs)) ≡ true
+    by_order true e first others tail =
+        ap constructors_differ (inserted_here family_id F G Gs e)
+        ∙ and_from (ids_differ (map constructor_id F.constructors)) (list_all (λ c. is_none (constructor_of (G ∷ Gs) c.id)) F.constructors && constructors_differ (G ∷ Gs)) own
+        (and_from (list_all (λ c. is_none (constructor_of (G ∷ Gs) c.id)) F.constructors) (constructors_differ (G ∷ Gs)) absent differ)
+    by_order false e first others tail =
+        let here = λ (k : ℕ) (d : ConstructorEntry) (lt : k < length G.constructors).
+            let id = constructor_id (get_or G.constructors k d) in
+            is-none (constructor_of (inserted family_id F Gs) id)
+            (constructor_of-inserted F Gs id (apart_first F G Gs h) ∙ ap (λ o. either o (constructor_of Gs id)) (not_new k d lt)
+            ∙ none_is (constructor_of Gs id) (AllPass-from_list_all (λ c. is_none (constructor_of Gs c.id)) G.constructors others k d lt)) in
+        ap constructors_differ (inserted_behind family_id F G Gs e)
+        ∙ and_from (ids_differ (map constructor_id G.constructors)) (list_all (λ c. is_none (constructor_of (inserted family_id F Gs) c.id)) G.constructors && constructors_differ (inserted family_id F Gs)) first
+        (and_from (list_all (λ c. is_none (constructor_of (inserted family_id F Gs) c.id)) G.constructors) (constructors_differ (inserted family_id F Gs))
+        (list_all-from_AllPass (λ c. is_none (constructor_of (inserted family_id F Gs) c.id)) G.constructors here) tail)
