@@ -1,11 +1,12 @@
 -- Lists in the order of ids: what a search finds there, and what a new element changes.
 use Rattle.std.proofs.Common.{◌≡◌, ℕ, zero, suc, ◌+◌, ◌<◌, ◌≤◌, List, [], ◌∷◌, ◌++◌, length, get_or, slice_get, take, drop, map, Option, Some, None, option_map, is_none, not, Bool, true, false, ◌&&◌, ◌||◌, cond, eqb, nat_lt, ◌⊎◌, inl, inr, refl, sym, ap, ◌∙◌, subst, arith, Ordering, Result, Ok, Err, IfOk, IfErr}
-use Rattle.std.specs.List.{list_all, insert, HoldsAt}
+use Rattle.std.specs.List.{list_all, insert, filter, HoldsAt}
 use Rattle.std.specs.List.Sorted.{IsSearchInRange, IsBinarySearchResult, IsNonDecreasingBy, IsPartitionPoint}
 use Rattle.std.specs.Ordering.{ordering_index, MatchOrdering}
 use Rattle.std.specs.declared.cmp.Ordering.TheVariants.{Less, Equal, Greater}
 use Rattle.std.proofs.lemmas.Bool.{and_parts, and_from, ltb-true, ltb-false, eqb-true, eq-eqb}
 use Rattle.std.proofs.lemmas.Bool.Decides.{nat_tests}
+use Rattle.std.proofs.lemmas.List.Sums.{list_all-from_AllPass}
 use Rattle.std.proofs.lemmas.Option.{slice_get-get_or}
 use Rattle.std.proofs.lemmas.List.{length-map}
 use Rattle.std.proofs.Math.ListN.{get_or-map, set}
@@ -68,7 +69,7 @@ ascends-at key (x ∷ xs) zero (suc j) d h lt in_range = all-at (λ y. id_before
 ascends-at key (x ∷ xs) (suc i) (suc j) d h lt in_range = ascends-at key xs i j d (and_parts (list_all (λ y. id_before (key x) (key y)) xs) (ascends key xs) h).1 (omega arith) (omega arith)
 
 -- the first element of an id
-found_first : {X : Type 0} (key : X → GlobalId) (id : GlobalId) (x : X) (xs : List X) → key x ≡ id → with_id key id (x ∷ xs) ≡ Some x
+pub found_first : {X : Type 0} (key : X → GlobalId) (id : GlobalId) (x : X) (xs : List X) → key x ≡ id → with_id key id (x ∷ xs) ≡ Some x
 found_first key id x xs e = ap (λ b. cond b (Some x) (with_id key id xs)) (ap (λ a. same_id a id) e ∙ id-same id)
 
 pub found_behind : {X : Type 0} (key : X → GlobalId) (id : GlobalId) (x : X) (xs : List X) → same_id (key x) id ≡ false → with_id key id (x ∷ xs) ≡ with_id key id xs
@@ -331,8 +332,8 @@ still_absent key x (z ∷ zs) ys new_id apart absent =
     let aparts = and_parts (not (same_id (key x) (key z))) (list_all (λ b. not (same_id (key x) b)) (map key zs)) apart in
     let parts = and_parts (is_none (with_id key (key z) ys)) (list_all (λ w. is_none (with_id key (key w) ys)) zs) absent in
     let here =
-        with_id-inserted key x ys (key z) new_id ∙ ap (λ b. cond b (Some x) (with_id key (key z) ys)) (not_true (same_id (key x) (key z)) aparts.0)
-        ∙ none_is (with_id key (key z) ys) parts.0 in
+    with_id-inserted key x ys (key z) new_id ∙ ap (λ b. cond b (Some x) (with_id key (key z) ys)) (not_true (same_id (key x) (key z)) aparts.0)
+    ∙ none_is (with_id key (key z) ys) parts.0 in
     and_from (is_none (with_id key (key z) (inserted key x ys))) (list_all (λ w. is_none (with_id key (key w) (inserted key x ys))) zs)
     (is-none (with_id key (key z) (inserted key x ys)) here) (still_absent key x zs ys new_id aparts.1 parts.1)
 
@@ -407,3 +408,80 @@ ascends-changed {Y = Y} key id h ys keeps = ascends-map (changed key id h) key y
     at : (b : Bool) (y : Y) → key (cond b (h y) y) ≡ key y
     at true y = keeps y
     at false y = refl
+
+-- ---- some of the elements
+pub filter_yes : {X : Type 0} (q : X → Bool) (x : X) (xs : List X) → q x ≡ true → filter q (x ∷ xs) ≡ x ∷ filter q xs
+filter_yes q x xs e = ap (λ b. cond b (x ∷ filter q xs) (filter q xs)) e
+
+pub filter_no : {X : Type 0} (q : X → Bool) (x : X) (xs : List X) → q x ≡ false → filter q (x ∷ xs) ≡ filter q xs
+filter_no q x xs e = ap (λ b. cond b (x ∷ filter q xs) (filter q xs)) e
+
+abbrev pub only : {A : Type 0} → (A → Bool) → Option A → Option A
+only p None = None
+only p (Some a) = cond (p a) (Some a) None
+
+pub all-filter : {X : Type 0} (p q : X → Bool) (xs : List X) → list_all p xs ≡ true → list_all p (filter q xs) ≡ true
+all-filter p q [] h = refl
+all-filter p q (x ∷ xs) h = by_test (q x) refl (all-filter p q xs (and_parts (p x) (list_all p xs) h).1)
+  where
+    by_test : (b : Bool) → q x ≡ b → list_all p (filter q xs) ≡ true → list_all p (filter q (x ∷ xs)) ≡ true
+    by_test true e rest = ap (list_all p) (filter_yes q x xs e) ∙ and_from (p x) (list_all p (filter q xs)) (and_parts (p x) (list_all p xs) h).0 rest
+    by_test false e rest = ap (list_all p) (filter_no q x xs e) ∙ rest
+
+pub ascends-filter : {X : Type 0} (key : X → GlobalId) (q : X → Bool) (xs : List X) → ascends key xs ≡ true → ascends key (filter q xs) ≡ true
+ascends-filter key q [] up = refl
+ascends-filter key q (x ∷ xs) up =
+    by_test (q x) refl (ascends-filter key q xs (and_parts (list_all (λ y. id_before (key x) (key y)) xs) (ascends key xs) up).1)
+  where
+    by_test : (b : Bool) → q x ≡ b → ascends key (filter q xs) ≡ true → ascends key (filter q (x ∷ xs)) ≡ true
+    by_test true e rest =
+        ap (ascends key) (filter_yes q x xs e)
+        ∙ and_from (list_all (λ y. id_before (key x) (key y)) (filter q xs)) (ascends key (filter q xs))
+        (all-filter (λ y. id_before (key x) (key y)) q xs (and_parts (list_all (λ y. id_before (key x) (key y)) xs) (ascends key xs) up).0) rest
+    by_test false e rest = ap (ascends key) (filter_no q x xs e) ∙ rest
+
+-- no element behind has the id of one before
+pub all_before-absent : {X : Type 0} (key : X → GlobalId) (id : GlobalId) (xs : List X) → list_all (λ y. id_before id (key y)) xs ≡ true → with_id key id xs ≡ None
+all_before-absent key id [] h = refl
+all_before-absent key id (x ∷ xs) h =
+    let parts = and_parts (id_before id (key x)) (list_all (λ y. id_before id (key y)) xs) h in
+    found_behind key id x xs (after-differs id (key x) parts.0) ∙ all_before-absent key id xs parts.1
+
+pub with_id-filter : {X : Type 0} (key : X → GlobalId) (q : X → Bool) (id : GlobalId) (xs : List X) → ascends key xs ≡ true → with_id key id (filter q xs) ≡ only q (with_id key id xs)
+with_id-filter key q id [] up = refl
+with_id-filter key q id (x ∷ xs) up =
+    let parts = and_parts (list_all (λ y. id_before (key x) (key y)) xs) (ascends key xs) up in
+    by_test (q x) (same_id (key x) id) refl refl parts.0 (with_id-filter key q id xs parts.1)
+  where
+    by_test : (b c : Bool) → q x ≡ b → same_id (key x) id ≡ c → list_all (λ y. id_before (key x) (key y)) xs ≡ true →
+        with_id key id (filter q xs) ≡ only q (with_id key id xs) → with_id key id (filter q (x ∷ xs)) ≡ only q (with_id key id (x ∷ xs))
+    by_test true true e f up rest =
+        ap (with_id key id) (filter_yes q x xs e) ∙ ap (λ b. cond b (Some x) (with_id key id (filter q xs))) f
+        ∙ sym (ap (λ b. cond b (Some x) None) e) ∙ sym (ap (λ b. only q (cond b (Some x) (with_id key id xs))) f)
+    by_test true false e f up rest =
+        ap (with_id key id) (filter_yes q x xs e) ∙ found_behind key id x (filter q xs) f ∙ rest ∙ sym (ap (only q) (found_behind key id x xs f))
+    by_test false true e f up rest =
+        let none = all_before-absent key id xs (subst (λ a. list_all (λ y. id_before a (key y)) xs ≡ true) (same_id-is (key x) id f) up) in
+        ap (with_id key id) (filter_no q x xs e) ∙ rest ∙ ap (only q) none
+        ∙ sym (ap (λ b. cond b (Some x) None) e) ∙ sym (ap (λ b. only q (cond b (Some x) (with_id key id xs))) f)
+    by_test false false e f up rest =
+        ap (with_id key id) (filter_no q x xs e) ∙ rest ∙ sym (ap (only q) (found_behind key id x xs f))
+
+pub filter_all : {X : Type 0} (xs : List X) → filter (λ x. true) xs ≡ xs
+filter_all [] = refl
+filter_all (x ∷ xs) = ap (λ ys. x ∷ ys) (filter_all xs)
+
+-- ---- lists that share no id
+not_absent_at : {X : Type 0} (key : X → GlobalId) (xs : List X) (k : ℕ) (d : X) → k < length xs → with_id key (key (get_or xs k d)) xs ≡ None → ⊥
+not_absent_at key [] k d lt e = absurd (omega arith)
+not_absent_at key (x ∷ xs) zero d lt e = true≢false (sym (id-same (key x)) ∙ (absent_first key (key x) x xs e).0)
+not_absent_at key (x ∷ xs) (suc k) d lt e = not_absent_at key xs k d (omega arith) (absent_first key (key (get_or xs k d)) x xs e).1
+
+pub disjoint-insert : {X : Type 0} (key : X → GlobalId) (xs ys : List X) → ascends key xs ≡ true → ((id : GlobalId) → (with_id key id ys ≡ None) ⊎ (with_id key id xs ≡ None)) → CanInsertAll key xs ys
+disjoint-insert {X = X} key xs ys up apart =
+    can_insert_all key xs ys (ascending-differ key xs up) (list_all-from_AllPass (λ x. is_none (with_id key (key x) ys)) xs here)
+  where
+    here : (k : ℕ) (d : X) → k < length xs → is_none (with_id key (key (get_or xs k d)) ys) ≡ true
+    here k d lt =
+        let id = key (get_or xs k d) in
+        elim (apart id) [ inl none ↦ is-none (with_id key id ys) none | inr none ↦ absurd (not_absent_at key xs k d lt none) ]

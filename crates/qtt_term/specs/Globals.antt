@@ -2,7 +2,6 @@
 use Rattle.std.specs.Prelude.{◌≡◌, List, map, Option, Some, None, option_map, is_none, IsTrue, Bool, true, ◌&&◌, eqb}
 use Rattle.std.specs.List.{list_all}
 use Rattle.qtt_base.specs.declared.place.GlobalId.{GlobalId}
-use Rattle.qtt_base.specs.declared.place.ModuleId.{ModuleId}
 use Rattle.qtt_term.specs.declared.globals.Globals.{Globals}
 use Rattle.qtt_term.specs.Signature.{Env}
 use Rattle.qtt_term.specs.Keyed.{with_id, ids_differ}
@@ -38,8 +37,3 @@ pub record IsNew (g : Globals) (F : FamilyEntry) : Type 0 where
 -- a definition has this id, and it has no body
 abbrev pub IsOpen : Globals → GlobalId → Type 0
 IsOpen g id = option_map (λ e. e.definition.body) (with_id definition_id id (definitions g)) ≡ Some None
-
--- the ids of one module, or all
-abbrev pub is_of : Option ModuleId → GlobalId → Bool
-is_of None id = true
-is_of (Some m) id = eqb id.module.0 m.0

@@ -1,8 +1,14 @@
 -- Lists in the order of ids.
-use Rattle.std.specs.Prelude.{◌≡◌, ℕ, ◌<◌, ◌≤◌, List, [], ◌∷◌, length, Option, None, Bool, true, ◌&&◌, ◌||◌, cond, not, eqb, nat_lt, find, slice_get}
+use Rattle.std.specs.Prelude.{◌≡◌, ℕ, ◌<◌, ◌≤◌, List, [], ◌∷◌, length, Option, Some, None, Bool, true, ◌&&◌, ◌||◌, cond, not, eqb, nat_lt, find, slice_get}
 use Rattle.std.specs.List.{list_all, insert}
 use Rattle.qtt_base.specs.declared.place.GlobalId.{GlobalId}
+use Rattle.qtt_base.specs.declared.place.ModuleId.{ModuleId}
 use Rattle.qtt_term.specs.Term.{same_id}
+
+-- the ids of one module, or all
+abbrev pub is_of : Option ModuleId → GlobalId → Bool
+is_of None id = true
+is_of (Some m) id = eqb id.module.0 m.0
 
 -- of an earlier module, or earlier in one module
 abbrev pub id_before : GlobalId → GlobalId → Bool

@@ -1,8 +1,9 @@
 //! The environment: families with their constructors, and definitions.
 
 ghost use Rattle.std.specs.Prelude.{◌≡◌, ◌<◌, ◌^◌, length, map, IsTrue, IfOk};
+ghost use Rattle.std.specs.List.{filter};
 ghost use Rattle.qtt_base.specs.declared.place.GlobalId.{GlobalId};
-ghost use Rattle.qtt_term.specs.Keyed.{ascends};
+ghost use Rattle.qtt_term.specs.Keyed.{ascends, is_of};
 ghost use Rattle.qtt_term.specs.Items.{constructor_entry, family_entry, definition_entry, family_id, definition_id, constructor_of, constructors_differ as differ};
 ghost use Rattle.qtt_term.specs.Places.{place_id, place_of, places_from};
 
@@ -58,11 +59,10 @@ impl Keyed for Place {
 }
 
 impl Globals {
-    ghost use Rattle.std.specs.Prelude.{[], Some, None, IsOk, OnOk, OnErr, IfSome, IfNone, option_map, ◌⊎◌};
-    ghost use Rattle.std.specs.List.{filter};
+    ghost use Rattle.std.specs.Prelude.{[], Some, None, IsOk, OnOk, OnErr, IfSome, IfNone, option_map, slice_get, ◌⊎◌};
     ghost use Rattle.qtt_term.specs.Keyed.{with_id, inserted, all_inserted};
     ghost use Rattle.qtt_term.specs.Items.{family as family_of, definition as definition_of, signature_entry, with_body};
-    ghost use Rattle.qtt_term.specs.Globals.{families as families_of, definitions as definitions_of, env, IsNew, IsAbsent, IsOpen, is_of};
+    ghost use Rattle.qtt_term.specs.Globals.{families as families_of, definitions as definitions_of, env, IsNew, IsAbsent, IsOpen};
     ghost use Rattle.qtt_term.specs.Substitution.{Closed};
     ghost use Rattle.qtt_term.specs.View.{term};
 
@@ -139,6 +139,23 @@ impl Globals {
         find(&self.definitions, id)
     }
 
+    /// The family of the constructor of this id, and the constructor's place there, from 0.
+    pub fn constructor(&self, id: GlobalId) -> Option<(&Family, u32)>
+        ensures found { IfSome result (λ r. constructor_of (families_of self.now) id ≡ Some (record { family = r.0.now.id; place = r.1 })) }
+        ensures family { IfSome result (λ r. with_id family_id r.0.now.id (families_of self.now) ≡ Some (family_entry r.0.now)) }
+        ensures place { IfSome result (λ r. slice_get (map (λ c. c.id) r.0.now.constructors.items) r.1 ≡ Some id) }
+        ensures none { IfNone result (constructor_of (families_of self.now) id ≡ None) }
+    {
+        let con = match find(&self.places, id) {
+            Some(place) => place.con,
+            None => return None,
+        };
+        match self.family(con.family) {
+            Some(family) => Some((family, con.place)),
+            None => unreachable!(),
+        }
+    }
+
     /// All definitions, in ascending order of module and item.
     pub fn definitions(&self) -> &[Definition]
         ensures all { map definition_entry result.now ≡ definitions_of self.now }
@@ -146,6 +163,115 @@ impl Globals {
     {
         &self.definitions
     }
+
+    /// An equal environment.
+    pub fn copy(&self, alloc: Global) -> Result<Globals, MemoryError>
+        ensures families { IfOk result (λ g. families_of g ≡ families_of self.now) }
+        ensures definitions { IfOk result (λ g. definitions_of g ≡ definitions_of self.now) }
+    {
+        self.copied(alloc, None)
+    }
+
+    /// The items of one module.
+    pub fn part(&self, alloc: Global, module: ModuleId) -> Result<Globals, MemoryError>
+        ensures families { IfOk result (λ g. families_of g ≡ filter (λ F. is_of (Some «module») F.id) (families_of self.now)) }
+        ensures definitions { IfOk result (λ g. definitions_of g ≡ filter (λ d. is_of (Some «module») d.id) (definitions_of self.now)) }
+    {
+        self.copied(alloc, Some(module))
+    }
+
+    fn copied(&self, alloc: Global, of: Option<ModuleId>) -> Result<Globals, MemoryError>
+        ensures families { IfOk result (λ g. families_of g ≡ filter (λ F. is_of of F.id) (families_of self.now)) }
+        ensures definitions { IfOk result (λ g. definitions_of g ≡ filter (λ d. is_of of d.id) (definitions_of self.now)) }
+    {
+        Ok(Globals {
+            families: copied_families(alloc, &self.families, of)?,
+            definitions: copied_definitions(alloc, &self.definitions, of)?,
+            places: copied_places(alloc, &self.places, of)?,
+        })
+    }
+
+    /// Adds all items of a part.
+    pub fn adopt(&mut self, alloc: Global, part: &Globals) -> Result<(), MemoryError>
+        requires { (id : GlobalId) → IsAbsent self.old id ⊎ IsAbsent part.now id }
+        ensures families { OnOk result (families_of self.new ≡ all_inserted family_id (families_of part.now) (families_of self.old)) }
+        ensures definitions { OnOk result (definitions_of self.new ≡ all_inserted definition_id (definitions_of part.now) (definitions_of self.old)) }
+        ensures err_families { OnErr result (families_of self.new ≡ families_of self.old) }
+        ensures err_definitions { OnErr result (definitions_of self.new ≡ definitions_of self.old) }
+    {
+        let Globals {
+            families,
+            definitions,
+            places,
+        } = part.copy(alloc)?;
+        self.families.reserve(families.len())?;
+        self.definitions.reserve(definitions.len())?;
+        self.places.reserve(places.len())?;
+        place_all(&mut self.families, families);
+        place_all(&mut self.definitions, definitions);
+        place_all(&mut self.places, places);
+        Ok(())
+    }
+}
+
+fn belongs(of: Option<ModuleId>, id: GlobalId) -> bool
+    ensures { result ≡ is_of of id }
+{
+    match of {
+        Some(module) => id.module.same(module),
+        None => true,
+    }
+}
+
+/// Copies of the families of one module, or of all.
+fn copied_families(
+    alloc: Global,
+    families: &[Family],
+    of: Option<ModuleId>,
+) -> Result<Vec<Family>, MemoryError>
+    ensures { IfOk result (λ v. map family_entry v.items ≡ filter (λ F. is_of of F.id) (map family_entry families.now)) }
+{
+    let mut copies = Vec::new(alloc);
+    for family in families {
+        if belongs(of, family.id) {
+            copies.push(family.copy(alloc)?)?;
+        }
+    }
+    Ok(copies)
+}
+
+/// Copies of the definitions of one module, or of all.
+fn copied_definitions(
+    alloc: Global,
+    definitions: &[Definition],
+    of: Option<ModuleId>,
+) -> Result<Vec<Definition>, MemoryError>
+    ensures { IfOk result (λ v. map definition_entry v.items ≡ filter (λ d. is_of of d.id) (map definition_entry definitions.now)) }
+{
+    let mut copies = Vec::new(alloc);
+    for definition in definitions {
+        if belongs(of, definition.id) {
+            copies.push(definition.copy(alloc)?)?;
+        }
+    }
+    Ok(copies)
+}
+
+/// The places of the constructors of one module's families, or of all.
+fn copied_places(
+    alloc: Global,
+    places: &[Place],
+    of: Option<ModuleId>,
+) -> Result<Vec<Place>, MemoryError>
+    ensures { IfOk result (λ v. v.items ≡ filter (λ p. is_of of p.con.family) places.now) }
+{
+    let mut copies = Vec::new(alloc);
+    for place in places {
+        if belongs(of, place.con.family) {
+            copies.push(*place)?;
+        }
+    }
+    Ok(copies)
 }
 
 /// Where the constructors of a family stand.

@@ -50,7 +50,7 @@ module _ (g : Globals) (F : FamilyEntry) (new : IsNew g F) where
 
   -- the families and the places afterwards
   module _ (ps qs : List Place) (up : ascends place_id ps ≡ true) (are : (id : GlobalId) → place_of ps id ≡ constructor_of (families g) id)
-    (placed : qs ≡ all_inserted place_id (places_from F.id 0 F.constructors) ps) where
+      (placed : qs ≡ all_inserted place_id (places_from F.id 0 F.constructors) ps) where
     new_places_ascend : ascends place_id qs ≡ true
     new_places_ascend = ap (ascends place_id) placed ∙ ascends-all_inserted place_id (places_from F.id 0 F.constructors) ps up (places_can ps are)
 
