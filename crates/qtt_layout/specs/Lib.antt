@@ -3,3 +3,4 @@ pub mod Rules
 pub mod Written
 pub mod Between
 pub mod Answer
+pub mod Laws

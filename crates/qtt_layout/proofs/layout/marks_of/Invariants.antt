@@ -2,7 +2,7 @@ use Rattle.std.proofs.Common.{◌≡◌, ◌≤◌, drop}
 use Rattle.qtt_layout.specs.Rules.{start, put_from, counted_of}
 use Rattle.qtt_layout.specs.Between.{state_of}
 use Rattle.qtt_layout.specs.Answer.{written_of}
-use Rattle.qtt_layout.proofs.layout.blocks.Given as goal
+use Rattle.qtt_layout.proofs.layout.marks_of.Given as goal
 
 abbrev pub invariant-loop-token : goal.invariant-loop-token
 invariant-loop-token l = record {
