@@ -4,6 +4,9 @@ pub mod Step
 pub mod Lean
 pub mod Erasure
 pub mod ErasedUse
+pub mod View
+pub mod Scopes
+pub mod Erased
 pub mod Laws
 pub mod Programs
 pub mod Rows
