@@ -4,6 +4,7 @@ pub mod Characters
 pub mod Piece
 pub mod Quoted
 pub mod Comment
+pub mod Examples
 pub mod Fitting
 pub mod Lexed
 pub mod Forms

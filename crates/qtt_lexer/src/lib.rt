@@ -18,8 +18,6 @@ mod word;
 pub use bytes::Bytes;
 pub use errors::LexError;
 pub use names::{is_big, is_simple};
-pub use piece::{Cause, Piece};
-pub use place::Place;
 pub use token::{Token, TokenKind};
 pub use tokens::lex;
 
