@@ -13,3 +13,8 @@ pub mod Heads
 pub mod Clean
 pub mod CleanCase
 pub mod NeverFails
+pub mod Scopes
+pub mod Within
+pub mod Variables
+pub mod Views
+pub mod Functions

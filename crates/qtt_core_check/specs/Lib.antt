@@ -1,4 +1,5 @@
 pub mod FirstSpent
+pub mod Seen
 pub mod WithUses
 pub mod Trapless
 pub mod SmallSorts

@@ -1,0 +1,152 @@
+//! Premises of the rules.
+
+ghost use Rattle.std.specs.Prelude.{◌≡◌, ◌<◌, IfOk, length};
+ghost use Rattle.qtt_usage.specs.Mult.{same_mult};
+ghost use Rattle.qtt_term.specs.View.{term};
+ghost use Rattle.qtt_term.specs.Globals.{env};
+ghost use Rattle.qtt_term.specs.Contexts.{part};
+ghost use Rattle.qtt_term.specs.Judgement.{under};
+ghost use Rattle.qtt_term.specs.Infer.{at, usable, use_at, agree, sort_of, function_of};
+ghost use Rattle.qtt_core_check.specs.Seen.{ctx, Gives, function};
+
+use crate::refusal::CoreRefusal;
+use crate::scope::Scope;
+use qtt_base::MemoryError;
+use qtt_term::{Answer, Converter, Globals, Head, Question, Rule, Sigma, Term};
+use qtt_usage::mult::Mult;
+use qtt_usage::usage::{Usage, UsageError};
+use std::alloc::Global;
+
+/// What the judgement is given: an answerer of questions with its contractions for each, and the environment.
+pub struct Checker<'a, C> {
+    pub alloc: Global,
+    pub converter: &'a C,
+    pub budget: u64,
+    pub globals: &'a Globals,
+}
+
+/// A function type taken apart.
+#[derive(Debug, Drop)]
+pub struct FunctionType {
+    pub mult: Mult,
+    pub domain: Term,
+    pub codomain: Term,
+}
+
+/// The part of what stands under a multiplicity.
+pub fn under(sigma: Sigma, mult: Mult) -> Sigma
+    ensures { part result ≡ under (part sigma) mult }
+{
+    match mult {
+        Mult::Zero => Sigma::Erased,
+        _ => sigma,
+    }
+}
+
+/// In the run part what is declared 0 may not be used.
+pub fn usable(sigma: Sigma, mult: Mult) -> bool
+    ensures { result ≡ usable (part sigma) mult }
+{
+    match (sigma, mult) {
+        (Sigma::Run, Mult::Zero) => false,
+        _ => true,
+    }
+}
+
+pub fn same_mult(one: Mult, other: Mult) -> bool
+    ensures { result ≡ same_mult one other }
+{
+    match (one, other) {
+        (Mult::Zero, Mult::Zero) | (Mult::One, Mult::One) | (Mult::Many, Mult::Many) => true,
+        _ => false,
+    }
+}
+
+/// One use of a variable in the run part, and none in the erased part.
+pub fn use_at(alloc: Global, sigma: Sigma, depth: u32, index: u32) -> Result<Usage, UsageError>
+    requires { index < depth }
+    ensures uses { IfOk result (λ u. u ≡ use_at (part sigma) depth index) }
+    ensures len { IfOk result (λ u. length u ≡ depth) }
+{
+    match sigma {
+        Sigma::Erased => Usage::zero(alloc, depth as usize),
+        Sigma::Run => Usage::unit(alloc, depth as usize, index as usize),
+    }
+}
+
+impl<'a, C: Converter> Checker<'a, C> {
+    /// What was found compares Equal to what is wanted.
+    #[tactic(auto, unfolding(qtt_term::specs::Ask::within, qtt_term::specs::Ask::on_answer, qtt_term::specs::Infer::agree))]
+    pub fn agree(
+        &self,
+        scope: &Scope<'_>,
+        found: &Term,
+        wanted: &Term,
+        rule: Rule,
+        number: u8,
+    ) -> Result<(), CoreRefusal>
+        ensures { Gives (env self.now.globals.now) self.now.budget (agree (ctx scope.now) (term found.now) (term wanted.now) (at rule number)) (λ u. u) result }
+    {
+        let depth = scope.depth()?;
+        match self
+            .converter
+            .compare(self.alloc, self.budget, self.globals, found, wanted)?
+        {
+            Answer::Equal => Ok(()),
+            Answer::Different(_) => Err(CoreRefusal::Fails(rule, number)),
+            Answer::Spent => Err(CoreRefusal::Spent(Question::Compare(
+                depth,
+                found.copy(self.alloc)?,
+                wanted.copy(self.alloc)?,
+            ))),
+        }
+    }
+
+    /// The head of a type is a Sort, of this level.
+    #[tactic(auto, unfolding(qtt_term::specs::Ask::within, qtt_term::specs::Ask::on_head, qtt_term::specs::Infer::sort_of))]
+    pub fn sort(
+        &self,
+        scope: &Scope<'_>,
+        ty: &Term,
+        rule: Rule,
+        number: u8,
+    ) -> Result<u32, CoreRefusal>
+        ensures { Gives (env self.now.globals.now) self.now.budget (sort_of (ctx scope.now) (term ty.now) (at rule number)) (λ l. l) result }
+    {
+        let depth = scope.depth()?;
+        match self
+            .converter
+            .head(self.alloc, self.budget, self.globals, ty)?
+        {
+            Head::Done(Term::Sort(level), _) => Ok(level),
+            Head::Done(_, _) => Err(CoreRefusal::Fails(rule, number)),
+            Head::Spent => Err(CoreRefusal::Spent(Question::Head(depth, ty.copy(self.alloc)?))),
+        }
+    }
+
+    /// The head of a type is a function type.
+    #[tactic(auto, unfolding(qtt_term::specs::Ask::within, qtt_term::specs::Ask::on_head, qtt_term::specs::Infer::function_of))]
+    pub fn function_type(
+        &self,
+        scope: &Scope<'_>,
+        ty: &Term,
+        rule: Rule,
+        number: u8,
+    ) -> Result<FunctionType, CoreRefusal>
+        ensures { Gives (env self.now.globals.now) self.now.budget (function_of (ctx scope.now) (term ty.now) (at rule number)) function result }
+    {
+        let depth = scope.depth()?;
+        match self
+            .converter
+            .head(self.alloc, self.budget, self.globals, ty)?
+        {
+            Head::Done(Term::Pi(mult, domain, codomain), _) => Ok(FunctionType {
+                mult,
+                domain: Box::into_inner(domain),
+                codomain: Box::into_inner(codomain),
+            }),
+            Head::Done(_, _) => Err(CoreRefusal::Fails(rule, number)),
+            Head::Spent => Err(CoreRefusal::Spent(Question::Head(depth, ty.copy(self.alloc)?))),
+        }
+    }
+}
