@@ -1,5 +1,5 @@
 -- Where constructors stand, as families come in.
-use Rattle.std.proofs.Common.{◌≡◌, ℕ, zero, suc, ◌+◌, ◌-◌, ◌<◌, ◌≤◌, List, [], ◌∷◌, ◌++◌, length, get_or, slice_get, map, Option, Some, None, option_map, is_none, not, Bool, true, false, ◌&&◌, cond, ◌⊎◌, inl, inr, refl, sym, ap, ◌∙◌, subst, arith}
+use Rattle.std.proofs.Common.{◌≡◌, ℕ, zero, suc, ◌+◌, ◌-◌, ◌<◌, ◌≤◌, List, [], ◌∷◌, ◌++◌, length, get_or, slice_get, map, Option, Some, None, option_map, is_none, Bool, true, false, ◌&&◌, cond, ◌⊎◌, inl, inr, refl, sym, ap, ◌∙◌, subst, arith}
 use Rattle.std.specs.List.{list_all, filter}
 use Rattle.std.proofs.lemmas.Bool.{and_parts, and_from}
 use Rattle.std.proofs.lemmas.List.Sums.{AllPass-from_list_all, list_all-from_AllPass}
@@ -13,7 +13,7 @@ use Rattle.qtt_term.specs.Keyed.{id_before, ascends, with_id, inserted, all_inse
 use Rattle.qtt_term.specs.Items.{ConstructorEntry, FamilyEntry, constructor_id, family_id, constructor_from, constructor_in, constructor_of, constructors_differ}
 use Rattle.qtt_term.specs.Places.{place_id, place_of, places_from}
 use Rattle.qtt_term.proofs.Same.{same_id-is, id-same}
-use Rattle.qtt_term.proofs.Order.{with_id-all_inserted, none_is, is-none, not_true, inserted_here, inserted_behind, only, filter_yes, filter_no, with_id-filter, absent_first, found_first, found_behind, all_before-absent}
+use Rattle.qtt_term.proofs.Order.{with_id-all_inserted, none_is, is-none, inserted_here, inserted_behind, only, filter_yes, filter_no, with_id-filter, absent_first, found_first, found_behind, all_before-absent}
 
 -- ---- the places of one family's constructors
 pub place_of-places_from : (f : GlobalId) (n : ℕ) (cs : List ConstructorEntry) (id : GlobalId) → place_of (places_from f n cs) id ≡ constructor_from f n cs id

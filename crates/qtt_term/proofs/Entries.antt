@@ -1,5 +1,5 @@
 -- Look-ups among families, definitions and constructors.
-use Rattle.std.proofs.Common.{◌≡◌, ℕ, zero, suc, List, [], ◌∷◌, map, Option, Some, None, option_map, Bool, true, false, cond, refl, sym, ap, ◌∙◌, Bor}
+use Rattle.std.proofs.Common.{◌≡◌, List, map, Option, Some, None, option_map, true, refl, sym, ap, ◌∙◌, Bor}
 use Rattle.std.specs.Option.{option_copied}
 use Rattle.qtt_base.specs.declared.place.GlobalId.{GlobalId}
 use Rattle.qtt_term.specs.Keyed.{with_id, ascends, inserted, all_inserted}

@@ -1,5 +1,5 @@
 -- The environment that the code's families and definitions stand for.
-use Rattle.std.specs.Prelude.{◌≡◌, List, map, Option, Some, None, option_map, is_none, IsTrue, Bool, true, ◌&&◌, eqb}
+use Rattle.std.specs.Prelude.{◌≡◌, List, map, Some, None, option_map, is_none, IsTrue, Bool, ◌&&◌, eqb}
 use Rattle.std.specs.List.{list_all}
 use Rattle.qtt_base.specs.declared.place.GlobalId.{GlobalId}
 use Rattle.qtt_term.specs.declared.globals.Globals.{Globals}

@@ -1,13 +1,12 @@
-use Rattle.std.proofs.Common.{◌≡◌, ℕ, ◌<◌, Ordering, true, Result, Ok, Err, IfOk, IfErr, length, rules, arith}
+use Rattle.std.proofs.Common.{◌≡◌, ℕ, ◌<◌, Ordering, true, rules, arith}
 use Rattle.std.specs.Ordering.{MatchOrdering, ordering_then, nat_cmp}
 use Rattle.std.specs.declared.cmp.Ordering.TheVariants.{Less, Equal, Greater}
 use Rattle.std.specs.Cmp.{ranks}
 use Rattle.qtt_base.specs.declared.place.GlobalId.{GlobalId}
-use Rattle.std.specs.List.Sorted.{IsSearchInRange, IsBinarySearchResult}
 use Rattle.std.proofs.lemmas.List.Sorted.{answers_always}
 use Rattle.std.proofs.lemmas.Bool.Decides.{nat_tests}
 use Rattle.qtt_base.specs.contracts.place.GlobalIdOrd.TheImpl as ord
-use Rattle.qtt_term.specs.Keyed.{id_before, IsPlaceOf, IsGapFor}
+use Rattle.qtt_term.specs.Keyed.{id_before}
 use Rattle.qtt_term.proofs.Order.{IsIdOrder, searched}
 use Rattle.qtt_term.proofs.keyed.search.Goals as goal
 

@@ -1,4 +1,4 @@
-use Rattle.std.proofs.Common.{◌≡◌, ℕ, List, ◌∷◌, [], map, true, None, Some, Option, option_map, is_none, not, ◌&&◌, refl, ap, sym, subst, ◌∙◌}
+use Rattle.std.proofs.Common.{◌≡◌, List, ◌∷◌, [], map, true, None, is_none, not, ◌&&◌, refl, ap, sym, subst, ◌∙◌}
 use Rattle.std.specs.List.{list_all}
 use Rattle.std.proofs.lemmas.Bool.{and_parts, and_from}
 use Rattle.qtt_base.specs.declared.place.GlobalId.{GlobalId}
@@ -7,10 +7,10 @@ use Rattle.qtt_term.specs.declared.globals.Globals.{Globals}
 use Rattle.qtt_term.specs.Term.{same_id}
 use Rattle.qtt_term.specs.Question.{either}
 use Rattle.qtt_term.specs.Keyed.{ascends, with_id, inserted, all_inserted, ids_differ, CanInsertAll}
-use Rattle.qtt_term.specs.Items.{ConstructorEntry, FamilyEntry, constructor_entry, family_entry, constructor_id, family_id, definition_id, constructor_in, constructor_of, constructors_differ, ids}
+use Rattle.qtt_term.specs.Items.{ConstructorEntry, FamilyEntry, constructor_entry, family_entry, constructor_id, family_id, definition_id, constructor_in, constructor_of, constructors_differ}
 use Rattle.qtt_term.specs.Places.{place_id, place_of, places_from}
 use Rattle.qtt_term.specs.Globals.{families, definitions, IsNew, is_absent}
-use Rattle.qtt_term.proofs.Order.{ascends-map, ascends-inserted, ascends-all_inserted, with_id-map, inserted-map, can_insert_all, none_is, not_true}
+use Rattle.qtt_term.proofs.Order.{ascends-inserted, ascends-all_inserted, can_insert_all, none_is}
 use Rattle.qtt_term.proofs.Constructors.{Apart, apart, can_place, place_of-places_from, places_from-ids, place_of-all_inserted, constructor_of-inserted, differ-inserted}
 use Rattle.qtt_term.proofs.Entries.{absent_below, ascends_below, grown}
 use Rattle.qtt_term.proofs.globals.Globals.add_family.Goals as goal

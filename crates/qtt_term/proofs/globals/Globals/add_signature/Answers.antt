@@ -1,8 +1,8 @@
-use Rattle.std.proofs.Common.{◌≡◌, None, is_none, ◌&&◌, map, ap, ◌∙◌}
+use Rattle.std.proofs.Common.{◌≡◌, None, is_none, ◌&&◌, ap, ◌∙◌}
 use Rattle.std.proofs.lemmas.Bool.{and_parts}
 use Rattle.qtt_base.specs.declared.place.GlobalId.{GlobalId}
 use Rattle.qtt_term.specs.declared.globals.Globals.{Globals}
-use Rattle.qtt_term.specs.Keyed.{ascends, with_id, inserted}
+use Rattle.qtt_term.specs.Keyed.{ascends, with_id}
 use Rattle.qtt_term.specs.Items.{definition_entry, definition_id, family_id, constructor_of, signature_entry}
 use Rattle.qtt_term.specs.View.{term}
 use Rattle.qtt_term.specs.Globals.{families, definitions, IsAbsent}

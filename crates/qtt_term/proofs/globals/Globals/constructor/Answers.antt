@@ -1,4 +1,4 @@
-use Rattle.std.proofs.Common.{◌≡◌, Some, None, map, option_map, slice_get, ap, sym, ◌∙◌}
+use Rattle.std.proofs.Common.{◌≡◌, Some, option_map, slice_get, ap, sym, ◌∙◌}
 use Rattle.std.proofs.lemmas.Simd.{map-map}
 use Rattle.qtt_base.specs.declared.place.GlobalId.{GlobalId}
 use Rattle.qtt_term.specs.declared.globals.Globals.{Globals}

@@ -1,4 +1,4 @@
-use Rattle.std.proofs.Common.{◌≡◌, map, ap, sym, ◌∙◌}
+use Rattle.std.proofs.Common.{map, ap, sym, ◌∙◌}
 use Rattle.std.specs.List.{filter}
 use Rattle.qtt_term.specs.Keyed.{ascends, is_of}
 use Rattle.qtt_term.specs.Items.{family_entry, definition_entry, family_id, definition_id, constructor_of, constructors_differ}

@@ -1,5 +1,4 @@
-use Rattle.std.proofs.Common.{◌≡◌, true, IfOk, List, subst}
-use Rattle.std.specs.List.{filter}
+use Rattle.std.proofs.Common.{◌≡◌, IfOk, List, subst}
 use Rattle.qtt_term.specs.Items.{FamilyEntry, DefinitionEntry}
 use Rattle.qtt_term.specs.Globals.{families, definitions}
 use Rattle.qtt_term.proofs.Order.{filter_all}

@@ -1,4 +1,4 @@
-use Rattle.std.proofs.Common.{◌≡◌, map, option_map, ap, sym, ◌∙◌}
+use Rattle.std.proofs.Common.{◌≡◌, option_map, ap, sym, ◌∙◌}
 use Rattle.qtt_term.specs.Keyed.{ascends, with_id}
 use Rattle.qtt_term.specs.Items.{family_entry, family_id}
 use Rattle.qtt_term.specs.Globals.{families}

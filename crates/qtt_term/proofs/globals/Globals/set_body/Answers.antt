@@ -1,4 +1,4 @@
-use Rattle.std.proofs.Common.{◌≡◌, ℕ, ◌<◌, List, map, length, get_or, Some, None, true, option_map, ap, sym, subst, ◌∙◌, refl}
+use Rattle.std.proofs.Common.{◌≡◌, ℕ, List, map, get_or, true, option_map, ap, sym, subst, ◌∙◌, refl}
 use Rattle.std.proofs.Math.ListN.{set}
 use Rattle.std.proofs.lemmas.List.{get_or_default}
 use Rattle.qtt_term.specs.Term.{Term}
@@ -7,7 +7,6 @@ use Rattle.qtt_term.specs.declared.items.Definition as code
 use Rattle.qtt_term.specs.Keyed.{ascends, with_id, IsPlaceOf}
 use Rattle.qtt_term.specs.Items.{definition_entry, definition_id, given_body, with_body}
 use Rattle.qtt_term.specs.View.{term}
-use Rattle.qtt_term.specs.Globals.{definitions}
 use Rattle.qtt_term.proofs.Order.{place_has_id, set-changed, ascends-changed, with_id-map}
 use Rattle.qtt_term.proofs.Entries.{ascends_below}
 use Rattle.qtt_term.proofs.globals.Globals.set_body.Goals as goal
