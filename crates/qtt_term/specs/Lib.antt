@@ -24,3 +24,4 @@ pub mod Answers
 pub mod Contexts
 pub mod Keyed
 pub mod Places
+pub mod PrimItems

@@ -10,6 +10,7 @@ pub mod globals;
 pub mod items;
 mod keyed;
 pub mod laws;
+mod prim_items;
 pub mod rule;
 pub mod shifting;
 pub mod substitution;
