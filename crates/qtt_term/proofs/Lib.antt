@@ -13,3 +13,4 @@ pub mod Components
 pub mod Order
 pub mod Entries
 pub mod Constructors
+pub mod PrimGlobals

@@ -9,6 +9,7 @@ ghost use Rattle.qtt_term.specs.Places.{place_id, place_of, places_from};
 
 use crate::items::{Definition, Family};
 use crate::keyed::{Keyed, find, place, place_all, search};
+use crate::prim_items::{bool_family, eq_family, line_family, unit_family};
 use crate::term::{ConId, Term};
 use qtt_base::{GlobalId, MemoryError, ModuleId, Name};
 use qtt_usage::mult::Mult;
@@ -63,8 +64,35 @@ impl Globals {
     ghost use Rattle.qtt_term.specs.Keyed.{with_id, inserted, all_inserted};
     ghost use Rattle.qtt_term.specs.Items.{family as family_of, definition as definition_of, signature_entry, with_body};
     ghost use Rattle.qtt_term.specs.Globals.{families as families_of, definitions as definitions_of, env, IsNew, IsAbsent, IsOpen};
+    ghost use Rattle.qtt_term.specs.PrimItems.{prim_families};
+    ghost use Rattle.qtt_term.specs.PrimEnvironment.{prim_env};
     ghost use Rattle.qtt_term.specs.Substitution.{Closed};
     ghost use Rattle.qtt_term.specs.View.{term};
+
+    fn new(alloc: Global) -> Globals
+        ensures families { families_of result ≡ [] }
+        ensures definitions { definitions_of result ≡ [] }
+    {
+        Globals {
+            families: Vec::new(alloc),
+            definitions: Vec::new(alloc),
+            places: Vec::new(alloc),
+        }
+    }
+
+    /// The environment of the module Prim, which has no definitions.
+    pub fn prim(alloc: Global) -> Result<Globals, MemoryError>
+        ensures families { IfOk result (λ g. families_of g ≡ prim_families) }
+        ensures definitions { IfOk result (λ g. definitions_of g ≡ []) }
+        ensures env { IfOk result (λ g. env g ≡ prim_env) }
+    {
+        let mut globals = Globals::new(alloc);
+        globals.add_family(alloc, unit_family(alloc)?)?;
+        globals.add_family(alloc, bool_family(alloc)?)?;
+        globals.add_family(alloc, line_family(alloc)?)?;
+        globals.add_family(alloc, eq_family(alloc)?)?;
+        Ok(globals)
+    }
 
     /// Adds a family. Its constructors are numbered by a `u32`.
     pub fn add_family(&mut self, alloc: Global, family: Family) -> Result<(), MemoryError>
