@@ -485,3 +485,12 @@ disjoint-insert {X = X} key xs ys up apart =
     here k d lt =
         let id = key (get_or xs k d) in
         elim (apart id) [ inl none ↦ is-none (with_id key id ys) none | inr none ↦ absurd (not_absent_at key xs k d lt none) ]
+
+pub with_id-changed : {Y : Type 0} (key : Y → GlobalId) (id : GlobalId) (h : Y → Y) (i : GlobalId) (ys : List Y) → ((y : Y) → key (h y) ≡ key y) →
+    with_id key i (map (changed key id h) ys) ≡ option_map (changed key id h) (with_id key i ys)
+with_id-changed {Y = Y} key id h i ys keeps =
+    with_id-map (changed key id h) key i ys ∙ ap (λ k. option_map (changed key id h) (with_id k i ys)) (fun_ext λ y. at (same_id (key y) id) y)
+  where
+    at : (b : Bool) (y : Y) → key (cond b (h y) y) ≡ key y
+    at true y = keeps y
+    at false y = refl

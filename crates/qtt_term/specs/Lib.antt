@@ -25,3 +25,4 @@ pub mod Contexts
 pub mod Keyed
 pub mod Places
 pub mod PrimItems
+pub mod Growth

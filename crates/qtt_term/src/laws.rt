@@ -1,5 +1,6 @@
 //! Laws of the definitions. Each function does nothing: its contract is the law.
 
+ghost use Rattle.qtt_term.specs.Growth.{EnvironmentsGrow};
 ghost use Rattle.qtt_term.specs.Laws.{SubstitutionLaws, ValuesAreKept, FullStepsContract, StepsKeepClosed, TapesAreOfEvents};
 
 /// Simultaneous substitutions compose, keep what they do not mention, and commute with renaming.
@@ -25,4 +26,9 @@ pub fn steps_keep_closed()
 /// The tapes at the end of a run are those of its events, also where it trapped and closed its open tapes.
 pub fn tapes_are_of_events()
     ensures { TapesAreOfEvents }
+{}
+
+/// An environment that grows has its new items at their ids, and the others as before.
+pub fn environments_grow()
+    ensures { EnvironmentsGrow }
 {}

@@ -22,3 +22,6 @@ pub use globals::Globals;
 pub use items::{Constructor, Definition, Family};
 pub use rule::Rule;
 pub use term::{Branch, Case, ConId, Delete, IoKind, Term, TermError};
+
+#[cfg(test)]
+mod tests;
