@@ -44,7 +44,7 @@ mutual
   pub data Statement : Type 0 where
     bind : Local → Tree → Statement
     local : Mult → Local → Annotation → Tree → Span → Statement
-    run : Tree → Statement
+    run : Tree → Span → Statement
 
   pub data Statements : Type 0 where
     no_statement : Statements

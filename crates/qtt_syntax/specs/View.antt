@@ -71,7 +71,7 @@ abbrev mutual
   pub statement_of : statement_code.Statement → Statement
   statement_of (step.Bind n e) = bind n (tree_of e)
   statement_of (step.Let' m n t e s) = local m n (annotation_of t) (tree_of e) s
-  statement_of (step.Run e) = run (tree_of e)
+  statement_of (step.Run e s) = run (tree_of e) s
 
   pub statement_row : {m : _} → Row_of-Statement m → Statements
   statement_row end_of-Statement = no_statement

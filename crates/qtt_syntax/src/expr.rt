@@ -145,5 +145,6 @@ pub enum Statement {
         value: Expr,
         span: Span,
     },
-    Run(Expr),
+    /// An expression, with the place of its first token, which may be a bracket.
+    Run { value: Expr, span: Span },
 }
