@@ -1,0 +1,5 @@
+pub mod Exact
+pub mod Runs
+pub mod Forms
+pub mod Deeper
+pub mod Whole

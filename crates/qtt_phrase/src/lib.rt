@@ -1,0 +1,2 @@
+//! Phrases over lists of tokens, and the theory of readers that are exact for them.
+#![tactic(auto)]
