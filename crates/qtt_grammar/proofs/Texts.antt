@@ -1,0 +1,112 @@
+-- Whole texts: their trees, the limits that they pass, and their first bad token.
+use Rattle.std.proofs.Common.{◌≡◌, ◌+◌, List, [], ◌∷◌, ◌++◌, Option, Some, None, refl, sym, ap, subst, ◌∙◌, append_assoc, arith}
+use Rattle.qtt_base.specs.declared.place.Span.{Span}
+use Rattle.qtt_phrase.specs.Phrase.{BeginsSome, FirstBad, Settles}
+use Rattle.qtt_phrase.specs.Reading.{Kind, Read}
+use Rattle.qtt_phrase.specs.Reading.Read.{got, bad, over}
+use Rattle.qtt_phrase.proofs.Exact.{Judged, nothing}
+use Rattle.std.proofs.lemmas.List.{append-nil}
+use Rattle.qtt_phrase.proofs.Whole.Fronts.{shorter, longer}
+use Rattle.qtt_phrase.proofs.Whole.{Fronts, fronts, whole, found, bad_first, got_first, over_settles, bad_settles_none, got_settles_none}
+use Rattle.qtt_syntax.specs.Tree.{Module}
+use Rattle.qtt_grammar.specs.declared.class.Pass.{Pass}
+use Rattle.qtt_grammar.specs.declared.stop.Excess.{Excess}
+use Rattle.qtt_grammar.specs.Lexeme.{Lexeme}
+use Rattle.qtt_grammar.specs.Grammar.{IsText}
+use Rattle.qtt_grammar.specs.Readers.{text_at}
+use Rattle.qtt_grammar.specs.Answer.{HasAnswer}
+use Rattle.qtt_grammar.specs.Answer.HasAnswer.{is_text, is_excess, is_bad}
+use Rattle.qtt_grammar.proofs.Items.{text_exact, text_some}
+
+abbrev nowhere : Span
+nowhere = record { line = 0; col = 0; len = 0 }
+
+-- a place that is another one
+abbrev elsewhere : Span → Span
+elsewhere s = record { line = s.line + 1; col = s.col; len = s.len }
+
+apart_from : (s : Span) → s ≡ elsewhere s → ⊥
+apart_from s e = let h = ap (λ (t : Span). t.line) e in omega arith
+
+abbrev TextRead : Type 0
+TextRead = Read Lexeme Excess Module
+
+text_whole : (pass : Pass) (ls : List Lexeme) (t : Module) (o : Option Excess) → IsText pass ls t o → Judged o t [] (text_at pass ls)
+text_whole pass ls t o m = whole (IsText pass) nothing (text_at pass) (text_exact nowhere pass) (text_some nowhere pass) ls t o m
+
+read_none : (r : TextRead) (t : Module) → r ≡ got t [] → (u : Module) (o : Option Excess) → Judged o u [] r → (u ≡ t) × (o ≡ None)
+read_none r t e u None j = (let h = sym j ∙ e in cc, refl)
+read_none r t e u (Some f) (w, j) = absurd (let h = sym e ∙ j in cc)
+
+pub one_tree : (pass : Pass) (ls : List Lexeme) (t u : Module) → IsText pass ls t None → IsText pass ls u None → t ≡ u
+one_tree pass ls t u m n = let x = text_whole pass ls t None m in let y = text_whole pass ls u None n in let h = sym x ∙ y in cc
+
+-- ---- the three answers
+
+no_text : (pass : Pass) (ls : List Lexeme) (r : TextRead) → text_at pass ls ≡ r → ((t : Module) (o : Option Excess) → Judged o t [] r → ⊥) → (t : Module) (o : Option Excess) → IsText pass ls t o → ⊥
+no_text pass ls r e h t o m = h t o (subst (λ (q : TextRead). Judged o t [] q) e (text_whole pass ls t o m))
+
+long_none : (a : Module) (x : Lexeme) (rest : List Lexeme) (t : Module) (o : Option Excess) → Judged o t [] (got a (x ∷ rest)) → ⊥
+long_none a x rest t None j = cc
+long_none a x rest t (Some f) (w, j) = cc
+
+bad_none : (k : Kind) (rest : List Lexeme) (t : Module) (o : Option Excess) → Judged o t [] (bad k rest) → ⊥
+bad_none k rest t None j = cc
+bad_none k rest t (Some f) (w, j) = cc
+
+over_none : (e : Excess) (rest : List Lexeme) (t : Module) → Judged None t [] (over e rest) → ⊥
+over_none e rest t j = cc
+
+answer_by : (pass : Pass) (ls : List Lexeme) (r : TextRead) → text_at pass ls ≡ r → HasAnswer pass ls
+answer_by pass ls (got t []) e =
+    is_text t (found (IsText pass) nothing (text_at pass) (text_exact nowhere pass) (text_some nowhere pass) ls t e)
+    (λ f st. got_settles_none (IsText pass) nothing (text_at pass) (text_exact nowhere pass) (text_some nowhere pass) ls t [] f e st)
+answer_by pass ls (got t (x ∷ rest)) e =
+    is_bad (x ∷ rest) (got_first (IsText pass) nothing (text_at pass) (text_exact nowhere pass) (text_some nowhere pass) ls t x rest e)
+    (λ f st. got_settles_none (IsText pass) nothing (text_at pass) (text_exact nowhere pass) (text_some nowhere pass) ls t (x ∷ rest) f e st)
+    (no_text pass ls (got t (x ∷ rest)) e (long_none t x rest))
+answer_by pass ls (bad k rest) e =
+    is_bad rest (bad_first (IsText pass) nothing (text_at pass) (text_exact nowhere pass) (text_some nowhere pass) ls k rest e)
+    (λ f st. bad_settles_none (IsText pass) nothing (text_at pass) (text_exact (elsewhere f.place) pass) (text_some (elsewhere f.place) pass) ls k rest f e (apart_from f.place) st)
+    (no_text pass ls (bad k rest) e (bad_none k rest))
+answer_by pass ls (over f rest) e =
+    is_excess f (over_settles (IsText pass) nothing (text_at pass) (text_exact nowhere pass) (text_some nowhere pass) ls f rest e)
+    (λ t m. over_none f rest t (subst (λ (q : TextRead). Judged None t [] q) e (text_whole pass ls t None m)))
+
+pub has_answer : (pass : Pass) (ls : List Lexeme) → HasAnswer pass ls
+has_answer pass ls = answer_by pass ls (text_at pass ls) refl
+
+-- ---- each is unique
+
+settled_by : (pass : Pass) (us vs rest more : List Lexeme) (e f : Excess) → BeginsSome (IsText pass) us → BeginsSome (IsText pass) vs → ((w : List Lexeme) (a : Module) (o : Option Excess) → IsText pass (us ++ w) a o → o ≡ Some e) → ((w : List Lexeme) (a : Module) (o : Option Excess) → IsText pass (vs ++ w) a o → o ≡ Some f) → Fronts us vs rest → e ≡ f
+settled_by pass us vs rest more e f (w, a, o, m) begun each later (shorter n same) =
+    let one = each w a o m in
+    let two = later (n ++ w) a o (subst (λ (z : List Lexeme). IsText pass z a o) (ap (λ (z : List Lexeme). z ++ w) same ∙ append_assoc vs n w) m) in
+    let h = sym one ∙ two in
+    cc
+settled_by pass us vs rest more e f begun (w, a, o, m) each later (longer x n r same parts) =
+    let two = later w a o m in
+    let one = each (x ∷ n ++ w) a o (subst (λ (z : List Lexeme). IsText pass z a o) (ap (λ (z : List Lexeme). z ++ w) same ∙ append_assoc us (x ∷ n) w) m) in
+    let h = sym one ∙ two in
+    cc
+
+pub settled_once : (pass : Pass) (ls : List Lexeme) (e f : Excess) → Settles (IsText pass) ls e → Settles (IsText pass) ls f → e ≡ f
+settled_once pass ls e f s t = settled_by pass s.front t.front s.rest t.rest e f s.begun t.begun s.each t.each (fronts s.front t.front s.rest t.rest (sym s.parts ∙ t.parts))
+
+same_rest : (us rest more : List Lexeme) → us ++ rest ≡ us ++ more → rest ≡ more
+same_rest [] rest more e = e
+same_rest (u ∷ us) rest more e = same_rest us rest more (let h = e in cc)
+
+not_longer : (pass : Pass) (us vs rest : List Lexeme) (x : Lexeme) (m r : List Lexeme) → ((y : Lexeme) (q : List Lexeme) → rest ≡ y ∷ q → BeginsSome (IsText pass) (us ++ y ∷ []) → ⊥) → rest ≡ x ∷ r → vs ≡ us ++ x ∷ m → BeginsSome (IsText pass) vs → ⊥
+not_longer pass us vs rest x m r stops parts same (w, a, o, n) =
+    stops x r parts (m ++ w, a, o, subst (λ (z : List Lexeme). IsText pass z a o) (ap (λ (z : List Lexeme). z ++ w) same ∙ append_assoc us (x ∷ m) w ∙ sym (append_assoc us (x ∷ []) (m ++ w))) n)
+
+rest_by : (pass : Pass) (us vs rest more : List Lexeme) → us ++ rest ≡ vs ++ more → BeginsSome (IsText pass) us → BeginsSome (IsText pass) vs → ((y : Lexeme) (q : List Lexeme) → rest ≡ y ∷ q → BeginsSome (IsText pass) (us ++ y ∷ []) → ⊥) → ((y : Lexeme) (q : List Lexeme) → more ≡ y ∷ q → BeginsSome (IsText pass) (vs ++ y ∷ []) → ⊥) → Fronts us vs rest → rest ≡ more
+rest_by pass us vs rest more e bu bv su sv (shorter [] same) = same_rest vs rest more (sym (ap (λ (z : List Lexeme). z ++ rest) (same ∙ append-nil vs)) ∙ e)
+rest_by pass us vs rest more e bu bv su sv (shorter (x ∷ m) same) =
+    let parts : x ∷ (m ++ rest) ≡ more = same_rest vs (x ∷ (m ++ rest)) more (sym (append_assoc vs (x ∷ m) rest) ∙ sym (ap (λ (z : List Lexeme). z ++ rest) same) ∙ e) in
+    absurd (not_longer pass vs us more x m (m ++ rest) sv (sym parts) same bu)
+rest_by pass us vs rest more e bu bv su sv (longer x m r same parts) = absurd (not_longer pass us vs rest x m r su parts same bv)
+
+pub first_bad_once : (pass : Pass) (ls rest more : List Lexeme) → FirstBad (IsText pass) ls rest → FirstBad (IsText pass) ls more → rest ≡ more
+first_bad_once pass ls rest more s t = rest_by pass s.front t.front rest more (sym s.parts ∙ t.parts) s.goes t.goes s.stops t.stops (fronts s.front t.front rest more (sym s.parts ∙ t.parts))

@@ -1,0 +1,6 @@
+pub mod Classes
+pub mod Lexeme
+pub mod Limits
+pub mod Grammar
+pub mod Readers
+pub mod Answer

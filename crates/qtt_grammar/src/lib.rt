@@ -1,0 +1,12 @@
+//! The grammar of module texts, and what reading them from left to right gives.
+#![tactic(auto)]
+
+mod class;
+mod laws;
+mod stop;
+
+pub use class::{Class, Pass, Standing};
+pub use laws::{
+    excesses_are_settled_once, first_bad_tokens_are_unique, texts_have_one_answer, trees_are_unique,
+};
+pub use stop::Excess;
