@@ -4,3 +4,4 @@ pub mod Limits
 pub mod Grammar
 pub mod Readers
 pub mod Answer
+pub mod Examples
