@@ -146,5 +146,8 @@ pub enum Statement {
         span: Span,
     },
     /// An expression, with the place of its first token, which may be a bracket.
-    Run { value: Expr, span: Span },
+    Run {
+        value: Expr,
+        span: Span,
+    },
 }
