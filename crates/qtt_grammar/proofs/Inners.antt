@@ -256,7 +256,7 @@ module _ {p : Span} (pass : Pass) (may : Bool) (L : Level) (R : LevelReader) (in
   begins_run : (tail : Bool) → Begins (OtherExpr pass may L tail) (of (statement_starts may tail))
   begins_run tail =
       let t = statement_starts may tail in
-      begins_or (Hole pass may L tail) _ (of t) (begins_wider (Hole pass may L tail) (opens tail (of is_hole)) (of t) (λ x e. let b = opens_both tail (of is_hole x) e in hole_starts may tail x.class b.0 b.1) (begins_token (λ _. None) (opens tail (of is_hole)) (λ x. hole x.bytes x.place)))
+      begins_or (Hole pass may L tail) _ (of t) (begins_wider (Hole pass may L tail) (opens tail (of is_hole)) (of t) (λ x e. let b = opens_both tail (of is_hole x) e in hole_starts may tail x.class b.0 b.1) (begins_token (λ _. None) (opens tail (of is_hole)) (λ x. hole x.name x.place)))
       (begins_or (Lambda pass may L tail) _ (of t) (begins_making lambda_of _ (of t) (begins_chain _ _ (of t) (begins_opener is_backslash t (by_may may (λ m. every (λ c. implies (is_backslash c) (statement_starts m tail c))) (refl)))))
       (begins_or (Doing pass may L tail) _ (of t) (begins_making do_of _ (of t) (begins_chain _ _ (of t) (begins_opener is_do t (by_may may (λ m. every (λ c. implies (is_do c) (statement_starts m tail c))) (refl)))))
       (begins_or (Pi pass may L) (Arrow pass may L) (of t) (begins_making pi_of _ (of t) (begins_chain _ _ (of t) (begins_typed t (by_may may (λ m. every (λ c. implies (is_left_paren c) (statement_starts m tail c))) (refl)))))
@@ -293,7 +293,7 @@ module _ {p : Span} (pass : Pass) (may : Bool) (L : Level) (R : LevelReader) (in
       (inr (inr (inr (inr (((x.place, name n), None), (x ∷ [], [], None, None, refl, (x, [], refl, refl, inr (inl ((n, ([], [])), (x ∷ [], [], None, None, refl, (x, refl, e, refl, refl), ([], [], None, None, refl, (refl, refl), (refl, refl), refl), refl), refl))), inl (refl, refl, refl), refl), refl)))))
 
   hole_run : (tail : Bool) (x : Lexeme) → opens tail (of is_hole) x ≡ true → Started (IsStatement pass may L tail) (x ∷ [])
-  hole_run tail x e = starts_run tail x [] (hole x.bytes x.place) None (inl (x, refl, e, refl, refl))
+  hole_run tail x e = starts_run tail x [] (hole x.name x.place) None (inl (x, refl, e, refl, refl))
 
   wild_run : (tail : Bool) (x : Lexeme) → of is_bname x ≡ true → Started (IsStatement pass may L tail) (x ∷ [])
   wild_run tail x e =

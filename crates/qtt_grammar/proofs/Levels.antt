@@ -243,7 +243,7 @@ module _ {p : Span} (pass : Pass) (may : Bool) (L : Level) (R : LevelReader) (in
 
   pub hole_reads : (tail : Bool) → Reads (At p) (Hole pass may L tail) (of is_hole) nothing (hole_at pass may R tail)
   unfolding hole_at
-  hole_reads tail = starting (of is_hole) (λ x e. (opens_both tail (of is_hole x) e).1) (tok (opens tail (of is_hole)) (λ x. hole x.bytes x.place))
+  hole_reads tail = starting (of is_hole) (λ x e. (opens_both tail (of is_hole x) e).1) (tok (opens tail (of is_hole)) (λ x. hole x.name x.place))
 
   -- ---- a block of statements
 

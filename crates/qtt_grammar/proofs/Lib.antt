@@ -1,3 +1,4 @@
+pub mod Below
 pub mod Decide
 pub mod Sets
 pub mod Levels

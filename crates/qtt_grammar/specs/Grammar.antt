@@ -57,10 +57,10 @@ abbrev pub Opening : Bool → (Class → Bool) → Says Span
 Opening may is = Token (opens may (of is)) place
 
 abbrev pub local_of : Lexeme → Local
-local_of x = record { name = x.bytes; span = x.place }
+local_of x = record { name = x.name; span = x.place }
 
 abbrev pub named_of : Lexeme → Named
-named_of x = record { path = x.bytes; target = Unknown; span = x.place }
+named_of x = record { path = x.name; target = Unknown; span = x.place }
 
 -- a name that an item or a binder gets
 abbrev pub Locally : (Class → Bool) → Says Local
@@ -79,15 +79,15 @@ abbrev pub IsZero : Says Mult
 IsZero = Perhaps mult.Many (Token (of is_zero) (λ x. mult_of x.class))
 
 abbrev pub word_of : Class → Lexeme → Tree
-word_of class.Text x = text x.bytes x.place
+word_of class.Text x = text x.text x.place
 word_of class.Universe x = universe (number_of x.number) x.number_place x.place
 word_of _ x = number x.number x.place
 
 abbrev pub hole_of : Lexeme → Tree
-hole_of x = hole x.bytes x.place
+hole_of x = hole x.name x.place
 
 abbrev pub pattern_word : Class → Lexeme → Shape
-pattern_word class.Small x = variable Written x.bytes x.place
+pattern_word class.Small x = variable Written x.name x.place
 pattern_word _ x = wildcard Written x.place
 
 -- ---- counts
@@ -333,7 +333,7 @@ module _ (pass : Pass) (may : Bool) (inner : Level) where
 
   -- a hole, in tail position
   abbrev pub Hole : Bool → Says Tree
-  Hole tail = Token (opens tail (of is_hole)) (λ x. hole x.bytes x.place)
+  Hole tail = Token (opens tail (of is_hole)) (λ x. hole x.name x.place)
 
   -- an expression that is no `let`
   abbrev pub OtherExpr : Bool → Says Tree

@@ -14,17 +14,21 @@ use Rattle.qtt_grammar.specs.Classes.{is_type, is_natural}
 pub record Lexeme : Type 0 where
   pub class : Class
   pub place : Span
-  -- the bytes of a name or of a text's value
-  pub bytes : List ℕ
+  -- the bytes of a name
+  pub name : List ℕ
+  -- the bytes of a text's value
+  pub text : List ℕ
   pub number : ℤ
   -- where the number stands, for `Type`
   pub number_place : Span
+  -- the word that stands for it where it is refused
+  pub found : List ℕ
 
 abbrev pub sign : Class → Span → Lexeme
-sign c s = record { class = c; place = s; bytes = []; number = pos 0; number_place = s }
+sign c s = record { class = c; place = s; name = []; text = []; number = pos 0; number_place = s; found = [] }
 
 abbrev pub word : Class → Span → List ℕ → Lexeme
-word c s bytes = record { class = c; place = s; bytes = bytes; number = pos 0; number_place = s }
+word c s name = record { class = c; place = s; name = name; text = []; number = pos 0; number_place = s; found = [] }
 
 abbrev pub name_class : List ℕ → Class
 name_class name = cond (is_simple name) (cond (is_big name) class.Big class.Small) (cond (is_big name) class.BigPath class.SmallPath)
@@ -39,11 +43,11 @@ number_class (b ∷ []) z = cond (b == 48) class.Zero (cond (b == 49) class.One 
 number_class _ z = sign_class z
 
 abbrev pub text_lexeme : Span → List ℕ → Lexeme
-text_lexeme s value = word class.Text s value
+text_lexeme s value = record { class = class.Text; place = s; name = []; text = value; number = pos 0; number_place = s; found = [] }
 
 -- `Type` with a number
 abbrev pub type_lexeme : Span → ℕ → Span → Lexeme
-type_lexeme s n ns = record { class = class.Universe; place = s; bytes = []; number = pos n; number_place = ns }
+type_lexeme s n ns = record { class = class.Universe; place = s; name = []; text = []; number = pos n; number_place = ns; found = [] }
 
 -- a token's form, at its place and as it is spelled
 abbrev pub token_lexeme : TokenKind → Span → List ℕ → Lexeme
@@ -59,7 +63,7 @@ token_lexeme kind.The s t = sign class.The s
 token_lexeme kind.Type s t = sign class.Universe s
 token_lexeme (kind.Name n) s t = word (name_class n) s n
 token_lexeme kind.Wildcard s t = word class.Wildcard s (codes "_")
-token_lexeme (kind.Number z) s t = record { class = number_class t z; place = s; bytes = []; number = z; number_place = s }
+token_lexeme (kind.Number z) s t = record { class = number_class t z; place = s; name = []; text = []; number = z; number_place = s; found = [] }
 token_lexeme (kind.Text v) s t = text_lexeme s v
 token_lexeme (kind.Hole n) s t = word class.Hole s n
 token_lexeme kind.LeftParen s t = sign class.LeftParen s
@@ -77,10 +81,10 @@ token_lexeme kind.RightBrace s t = sign class.RightBrace s
 token_lexeme kind.End s t = sign class.Other s
 
 abbrev pub lexeme_of : Laid → Lexeme
-lexeme_of (laid.Open s) = sign class.Open s
-lexeme_of (laid.Next s) = sign class.Next s
-lexeme_of (laid.Close s) = sign class.Close s
-lexeme_of (laid.Tok t) = token_lexeme t.kind t.span t.text
+lexeme_of (laid.Open s) = record (sign class.Open s) { found = codes "open" }
+lexeme_of (laid.Next s) = record (sign class.Next s) { found = codes "next" }
+lexeme_of (laid.Close s) = record (sign class.Close s) { found = codes "close" }
+lexeme_of (laid.Tok t) = record (token_lexeme t.kind t.span t.text) { found = t.text }
 
 abbrev pub takes_number : Lexeme → Lexeme → Bool
 takes_number x y = is_type x.class && is_natural y.class

@@ -170,7 +170,7 @@ module _ (pass : Pass) (may : Bool) (inner : LevelReader) where
   pi_at = making_at pi_of (then_at typed_at (then_at (opener_at may is_arrow) (inner.expr false)))
 
   unfoldable pub hole_at : Bool → Reads Tree
-  hole_at tail = token_at (λ _. None) (opens tail (of is_hole)) (λ x. hole x.bytes x.place)
+  hole_at tail = token_at (λ _. None) (opens tail (of is_hole)) (λ x. hole x.name x.place)
 
   unfoldable pub other_expr_at : Bool → Reads Tree
   other_expr_at tail = either_at (begins (of is_hole)) (hole_at tail) (either_at (begins (of is_backslash)) (lambda_at tail) (either_at (begins (of is_do)) (doing_at tail) (either_at begins_binder pi_at arrow_at)))

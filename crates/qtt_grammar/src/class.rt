@@ -1,5 +1,8 @@
 //! What the grammar asks of a mark or a token.
 
+ghost use Rattle.std.specs.Prelude.{◌≡◌};
+ghost use Rattle.qtt_grammar.specs.Classes.{rank, same, is_name, is_simple, is_constructor, is_bname, is_digit, is_natural, is_word, is_pattern_word, starts_atom, starts_binder, starts_pattern, starts_item};
+
 /// The form of a mark or a token, as far as the grammar tells forms apart.
 #[derive(Clone, Copy, Debug, PartialEq, Eq)]
 pub enum Class {
@@ -73,4 +76,124 @@ pub enum Standing {
     Within,
     /// It is the last one.
     Last,
+}
+
+impl Class {
+    fn rank(self) -> u8
+        ensures { result ≡ rank self }
+    {
+        self as u8
+    }
+
+    pub fn same(self, other: Class) -> bool
+        ensures { result ≡ same self other }
+    {
+        self.rank() == other.rank()
+    }
+
+    /// Any name.
+    pub fn is_name(self) -> bool
+        ensures { result ≡ is_name self }
+    {
+        matches!(
+            self,
+            Class::Small | Class::Big | Class::SmallPath | Class::BigPath
+        )
+    }
+
+    /// A name of one part.
+    pub fn is_simple(self) -> bool
+        ensures { result ≡ is_simple self }
+    {
+        matches!(self, Class::Small | Class::Big)
+    }
+
+    /// Any big name.
+    pub fn is_constructor(self) -> bool
+        ensures { result ≡ is_constructor self }
+    {
+        matches!(self, Class::Big | Class::BigPath)
+    }
+
+    /// What a binder may bind.
+    pub fn is_bname(self) -> bool
+        ensures { result ≡ is_bname self }
+    {
+        matches!(self, Class::Small | Class::Big | Class::Wildcard)
+    }
+
+    /// A mark of multiplicity.
+    pub fn is_digit(self) -> bool
+        ensures { result ≡ is_digit self }
+    {
+        matches!(self, Class::Zero | Class::One)
+    }
+
+    /// A number that isn't negative.
+    pub fn is_natural(self) -> bool
+        ensures { result ≡ is_natural self }
+    {
+        matches!(self, Class::Zero | Class::One | Class::Natural)
+    }
+
+    /// What is an atom by itself, but for names.
+    pub fn is_word(self) -> bool
+        ensures { result ≡ is_word self }
+    {
+        matches!(
+            self,
+            Class::Zero
+                | Class::One
+                | Class::Natural
+                | Class::Negative
+                | Class::Text
+                | Class::Universe
+        )
+    }
+
+    /// What is a pattern by itself, but for constructors.
+    pub fn is_pattern_word(self) -> bool
+        ensures { result ≡ is_pattern_word self }
+    {
+        matches!(self, Class::Small | Class::Wildcard)
+    }
+
+    /// What begins an atom.
+    pub fn starts_atom(self) -> bool
+        ensures { result ≡ starts_atom self }
+    {
+        self.is_name() || self.is_word() || matches!(self, Class::LeftParen)
+    }
+
+    /// What begins a binder of a function.
+    pub fn starts_binder(self) -> bool
+        ensures { result ≡ starts_binder self }
+    {
+        self.is_bname() || matches!(self, Class::LeftParen)
+    }
+
+    /// What begins a pattern.
+    pub fn starts_pattern(self) -> bool
+        ensures { result ≡ starts_pattern self }
+    {
+        matches!(
+            self,
+            Class::Small
+                | Class::Wildcard
+                | Class::Big
+                | Class::BigPath
+                | Class::LeftParen
+                | Class::DotParen
+        )
+    }
+
+    /// What begins an item.
+    pub fn starts_item(self) -> bool
+        ensures { result ≡ starts_item self }
+    {
+        matches!(
+            self,
+            Class::Data | Class::Partial | Class::Zero | Class::Small | Class::Big
+        )
+    }
 }

@@ -1,9 +1,13 @@
 //! The grammar of module texts, and what reading them from left to right gives.
 #![tactic(auto)]
 
+mod binder;
 mod class;
 mod laws;
+mod level;
+mod lexeme;
 mod stop;
+mod token;
 
 pub use class::{Class, Pass, Standing};
 pub use laws::{

@@ -1,0 +1,17 @@
+-- The readers of the level below.
+use Rattle.std.proofs.Common.{◌≡◌, ◌<◌, ◌-◌, ℕ, zero, suc, true, refl, arith}
+use Rattle.std.proofs.lemmas.Bool.Decides.{nat_tests}
+use Rattle.std.specs.Prelude.{nat_lt}
+use Rattle.qtt_grammar.specs.declared.class.Pass.{Pass}
+use Rattle.qtt_grammar.specs.Readers.{level_at, levels_at}
+use Rattle.qtt_grammar.specs.View.{below}
+
+pub below_is : (pass : Pass) (n : ℕ) → 0 < n → below pass n ≡ levels_at pass (n - 1)
+unfolding below
+below_is pass zero h = absurd (omega arith)
+below_is pass (suc n) h = let e : suc n - 1 ≡ n = omega arith in rw e refl
+
+pub level_is : (pass : Pass) (n : ℕ) → levels_at pass n ≡ level_at pass (nat_lt 0 n) (below pass n)
+unfolding below levels_at
+level_is pass zero = refl
+level_is pass (suc n) = let e : nat_lt 0 (suc n) ≡ true = grind (arith, nat_tests) in rw e refl
