@@ -15,7 +15,8 @@ use Rattle.qtt_grammar.specs.declared.class.Class.{Class}
 use Rattle.qtt_grammar.specs.declared.class.Class.TheVariants as class
 use Rattle.qtt_grammar.specs.declared.class.Pass.{Pass}
 use Rattle.qtt_grammar.specs.Classes.{is_wildcard, is_simple, is_digit, is_colon, is_left_paren, is_right_paren, is_bname}
-use Rattle.qtt_grammar.specs.Lexeme.{Lexeme, sign, word}
+use Rattle.qtt_grammar.specs.declared.lexeme.Lexeme.{Lexeme}
+use Rattle.qtt_grammar.specs.Lexeme.{sign, word}
 use Rattle.qtt_grammar.specs.declared.stop.Excess.{Excess}
 use Rattle.qtt_grammar.specs.Grammar.{of, named_of, word_of, app_of, IsMark, Level, Typed, Pi, Arrow}
 use Rattle.qtt_grammar.specs.Readers.{LevelReader, named_binder, marked_binder, begins_binder, mark_at, typed_at, pi_at, arrow_at, app_at, other_app_at, other_atom_at, bracket_at, atoms_at}

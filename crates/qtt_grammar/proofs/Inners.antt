@@ -18,7 +18,8 @@ use Rattle.qtt_grammar.specs.declared.class.Class.{Class}
 use Rattle.qtt_grammar.specs.declared.class.Class.TheVariants as class
 use Rattle.qtt_grammar.specs.declared.class.Pass.{Pass}
 use Rattle.qtt_grammar.specs.Classes.{is_open, is_close, is_do, is_let, is_in, is_the, is_zero, is_hole, is_wildcard, is_left_paren, is_right_paren, is_dot_paren, is_arrow, is_left_arrow, is_colon, is_equals, is_backslash, is_left_brace, is_right_brace, is_name, is_simple, is_constructor, is_bname, is_word, is_pattern_word, is_fat_arrow, starts_pattern}
-use Rattle.qtt_grammar.specs.Lexeme.{Lexeme, sign, word}
+use Rattle.qtt_grammar.specs.declared.lexeme.Lexeme.{Lexeme}
+use Rattle.qtt_grammar.specs.Lexeme.{sign, word}
 use Rattle.qtt_grammar.specs.declared.stop.Excess.{Excess}
 use Rattle.qtt_grammar.specs.Limits.{excess_of}
 use Rattle.qtt_grammar.specs.Grammar.{Says, of, place, word_of, typed_of, lambda_of, let_parts, do_of, bracket_of, the_of, named_app_of, other_app_of, arrow_of, pi_of, Typed, Bracket, OtherAtom, IsAtom, IsMark, The, NamedApp, OtherApp, IsBinder, IsAnnotation, Symbol, Opening, local_of, named_of, mult_of, pattern_word, Counted, Up_to, let_statement_of, after_in, bind_of, run_of, implicit_of, group_of, nested_of, bracketed_of, dot_of, bare_of, standing_of, may_end, Level, Hole, Lambda, Doing, Pi, Arrow, OtherExpr, IsExpr, LetStatement, Binding, IsStatement, Implicit, IsTyping, Inside, Bracketed, Dot, OtherPattern, IsPattern, Shape_of, Simple_level, levels}

@@ -15,7 +15,8 @@ use Rattle.qtt_grammar.specs.declared.class.Pass.{Pass}
 use Rattle.qtt_grammar.specs.declared.class.Pass.TheVariants.{Counts, Free}
 use Rattle.std.proofs.lemmas.List.{append-nil}
 use Rattle.qtt_grammar.specs.Classes.{is_open, is_next, is_close, is_module, is_import, is_data, is_where, is_partial, is_zero, is_left_paren, is_right_paren, is_colon, is_equals, is_name, is_simple, is_big, starts_pattern, starts_item}
-use Rattle.qtt_grammar.specs.Lexeme.{Lexeme, sign, word}
+use Rattle.qtt_grammar.specs.declared.lexeme.Lexeme.{Lexeme}
+use Rattle.qtt_grammar.specs.Lexeme.{sign, word}
 use Rattle.qtt_grammar.specs.declared.stop.Excess.{Excess}
 use Rattle.qtt_grammar.specs.Limits.{is_full, one_above}
 use Rattle.qtt_grammar.specs.Grammar.{Says, of, place, Symbol, local_of, Locally, IsZero, Up_to, Counted, Level, Place, start, listed, clauses_before, next_place, param_of, con_of, next_con_of, cons_of, family_of, partial_of, erased_of, signature_of, clause_of, second, import_of, module_of, IsParam, IsCon, Cons, IsFamily, Partial, Erased, Signing, Equation, Clause, Defining, IsItem, IsImport, IsEntry, IsModule, IsText, levels}

@@ -17,7 +17,8 @@ use Rattle.qtt_grammar.specs.declared.class.Class.{Class}
 use Rattle.qtt_grammar.specs.declared.class.Class.TheVariants as class
 use Rattle.qtt_grammar.specs.declared.class.Pass.{Pass}
 use Rattle.qtt_grammar.specs.Classes.{is_open, is_next, is_close, is_do, is_let, is_in, is_the, is_zero, is_hole, is_left_paren, is_right_paren, is_arrow, is_fat_arrow, is_colon, is_equals, is_backslash, is_left_brace, is_right_brace, is_name, is_bname, is_digit, is_word, starts_atom, starts_other_atom, starts_binder, starts_pattern}
-use Rattle.qtt_grammar.specs.Lexeme.{Lexeme, sign, word}
+use Rattle.qtt_grammar.specs.declared.lexeme.Lexeme.{Lexeme}
+use Rattle.qtt_grammar.specs.Lexeme.{sign, word}
 use Rattle.qtt_grammar.specs.declared.stop.Excess.{Excess}
 use Rattle.qtt_grammar.specs.Limits.{is_full, one_above, excess_of}
 use Rattle.qtt_grammar.specs.Grammar.{Says, of, place, Symbol, Opening, local_of, named_of, Locally, mult_of, IsMark, IsZero, word_of, Up_to, typed_of, lambda_of, annotation_of, let_parts, let_of, next_of, do_of, bracket_of, braced_of, written_of, the_of, named_app_of, other_app_of, behind_of, arrow_of, pi_of, standing_of, Line, may_end, may_go, next_line, Level, Typed, IsBinder, Lambda, IsAnnotation, LetHead, Letting, Lines, Doing, Bracket, OtherAtom, IsAtom, Atoms, Brace, The, NamedApp, OtherApp, IsApp, Arrow, Pi, Hole}

@@ -1,4 +1,5 @@
 pub mod Below
+pub mod Loops
 pub mod Decide
 pub mod Sets
 pub mod Levels

@@ -11,7 +11,7 @@ use Rattle.qtt_grammar.specs.declared.class.Class.{Class}
 use Rattle.qtt_grammar.specs.declared.class.Class.TheVariants as class
 use Rattle.qtt_grammar.specs.declared.class.Pass.{Pass}
 use Rattle.qtt_grammar.specs.Classes.{is_let, is_wildcard, is_simple, is_digit}
-use Rattle.qtt_grammar.specs.Lexeme.{Lexeme}
+use Rattle.qtt_grammar.specs.declared.lexeme.Lexeme.{Lexeme}
 use Rattle.qtt_grammar.specs.Grammar.{of, named_of, word_of, app_of}
 use Rattle.qtt_grammar.specs.Readers.{Reads, LevelReader, other_expr_at, expr_at, arrow_at, app_at, named_app_at, other_app_at, other_atom_at, atom_at, atoms_at, bracket_at}
 use Rattle.qtt_grammar.proofs.Sets.{halts}

@@ -11,7 +11,7 @@ use Rattle.qtt_phrase.proofs.Whole.{Fronts, fronts, whole, found, bad_first, got
 use Rattle.qtt_syntax.specs.Tree.{Module}
 use Rattle.qtt_grammar.specs.declared.class.Pass.{Pass}
 use Rattle.qtt_grammar.specs.declared.stop.Excess.{Excess}
-use Rattle.qtt_grammar.specs.Lexeme.{Lexeme}
+use Rattle.qtt_grammar.specs.declared.lexeme.Lexeme.{Lexeme}
 use Rattle.qtt_grammar.specs.Grammar.{IsText}
 use Rattle.qtt_grammar.specs.Readers.{text_at}
 use Rattle.qtt_grammar.specs.Answer.{HasAnswer}

@@ -4,7 +4,7 @@ use Rattle.qtt_phrase.specs.Phrase.{FirstBad, Settles}
 use Rattle.qtt_syntax.specs.Tree.{Module}
 use Rattle.qtt_grammar.specs.declared.class.Pass.{Pass}
 use Rattle.qtt_grammar.specs.declared.stop.Excess.{Excess}
-use Rattle.qtt_grammar.specs.Lexeme.{Lexeme}
+use Rattle.qtt_grammar.specs.declared.lexeme.Lexeme.{Lexeme}
 use Rattle.qtt_grammar.specs.Grammar.{IsText}
 
 -- One of three, each of which excludes the others.

@@ -12,7 +12,8 @@ use Rattle.qtt_phrase.specs.Reading.Read.{got, bad}
 use Rattle.qtt_phrase.specs.Reading.Kind.{unexpected, too_deep}
 use Rattle.qtt_grammar.specs.declared.class.Class.TheVariants as class
 use Rattle.qtt_grammar.specs.declared.class.Pass.TheVariants.{Counts}
-use Rattle.qtt_grammar.specs.Lexeme.{Lexeme, sign, word}
+use Rattle.qtt_grammar.specs.declared.lexeme.Lexeme.{Lexeme}
+use Rattle.qtt_grammar.specs.Lexeme.{sign, word}
 use Rattle.qtt_grammar.specs.Readers.{expr_at, other_expr_at, arrow_at, app_at, named_app_at, atoms_at, typing_at, signing_at, defining_at, item_at, import_at, entry_at, entries_at, module_at, levels_at}
 
 -- the place with a number

@@ -32,7 +32,7 @@ use Rattle.qtt_grammar.specs.declared.class.Pass.{Pass}
 use Rattle.qtt_grammar.specs.declared.class.Standing.{Standing}
 use Rattle.qtt_grammar.specs.declared.class.Standing.TheVariants.{Before, Within, Last}
 use Rattle.qtt_grammar.specs.Classes.{is_open, is_next, is_close, is_module, is_import, is_data, is_where, is_do, is_let, is_in, is_partial, is_the, is_zero, is_hole, is_left_paren, is_right_paren, is_dot_paren, is_arrow, is_left_arrow, is_fat_arrow, is_colon, is_equals, is_backslash, is_left_brace, is_right_brace, is_name, is_simple, is_big, is_constructor, is_bname, is_digit, is_word, is_pattern_word}
-use Rattle.qtt_grammar.specs.Lexeme.{Lexeme}
+use Rattle.qtt_grammar.specs.declared.lexeme.Lexeme.{Lexeme}
 use Rattle.qtt_grammar.specs.declared.stop.Excess.{Excess}
 use Rattle.qtt_grammar.specs.Limits.{is_full, one_above, number_of, excess_of}
 

@@ -8,21 +8,8 @@ use Rattle.qtt_layout.specs.declared.laid.Laid.{Laid}
 use Rattle.qtt_layout.specs.declared.laid.Laid.TheVariants as laid
 use Rattle.qtt_grammar.specs.declared.class.Class.{Class}
 use Rattle.qtt_grammar.specs.declared.class.Class.TheVariants as class
+use Rattle.qtt_grammar.specs.declared.lexeme.Lexeme.{Lexeme}
 use Rattle.qtt_grammar.specs.Classes.{is_type, is_natural}
-
--- a mark or a token; `Type` with the number that it takes is one
-pub record Lexeme : Type 0 where
-  pub class : Class
-  pub place : Span
-  -- the bytes of a name
-  pub name : List ℕ
-  -- the bytes of a text's value
-  pub text : List ℕ
-  pub number : ℤ
-  -- where the number stands, for `Type`
-  pub number_place : Span
-  -- the word that stands for it where it is refused
-  pub found : List ℕ
 
 abbrev pub sign : Class → Span → Lexeme
 sign c s = record { class = c; place = s; name = []; text = []; number = pos 0; number_place = s; found = [] }

@@ -9,7 +9,7 @@ use Rattle.qtt_grammar.specs.declared.class.Class.TheVariants as class
 use Rattle.qtt_grammar.specs.declared.class.Pass.{Pass}
 use Rattle.qtt_grammar.specs.declared.class.Pass.TheVariants.{Counts, Free}
 use Rattle.qtt_grammar.specs.declared.stop.Excess.{Excess}
-use Rattle.qtt_grammar.specs.Lexeme.{Lexeme}
+use Rattle.qtt_grammar.specs.declared.lexeme.Lexeme.{Lexeme}
 
 abbrev pub counts : Pass → Bool
 counts Counts = true

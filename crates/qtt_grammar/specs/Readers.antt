@@ -18,7 +18,7 @@ use Rattle.qtt_grammar.specs.declared.class.Class.{Class}
 use Rattle.qtt_grammar.specs.declared.class.Class.TheVariants as class
 use Rattle.qtt_grammar.specs.declared.class.Pass.{Pass}
 use Rattle.qtt_grammar.specs.Classes.{is_open, is_next, is_close, is_module, is_import, is_data, is_where, is_do, is_let, is_in, is_partial, is_the, is_zero, is_hole, is_left_paren, is_right_paren, is_dot_paren, is_arrow, is_left_arrow, is_fat_arrow, is_colon, is_equals, is_backslash, is_left_brace, is_right_brace, is_wildcard, is_name, is_simple, is_big, is_constructor, is_bname, is_digit, is_word, is_pattern_word, starts_atom, starts_binder, starts_pattern, starts_item}
-use Rattle.qtt_grammar.specs.Lexeme.{Lexeme}
+use Rattle.qtt_grammar.specs.declared.lexeme.Lexeme.{Lexeme}
 use Rattle.qtt_grammar.specs.declared.stop.Excess.{Excess}
 use Rattle.qtt_grammar.specs.Limits.{is_full, one_above, excess_of}
 use Rattle.qtt_grammar.specs.Grammar.{of, place, local_of, named_of, mult_of, word_of, pattern_word, typed_of, lambda_of, annotation_of, LetParts, let_parts, let_of, after_in, let_statement_of, bind_of, run_of, next_of, do_of, bracket_of, braced_of, written_of, the_of, named_app_of, other_app_of, behind_of, arrow_of, pi_of, implicit_of, standing_of, Line, may_end, may_go, next_line, group_of, nested_of, bracketed_of, dot_of, bare_of, Place, start, Entry, listed, clauses_before, next_place, param_of, con_of, next_con_of, cons_of, family_of, partial_of, erased_of, signature_of, clause_of, second, import_of, module_of}

@@ -1,34 +1,23 @@
--- What the lexemes of the code stand for, and what its readers answer.
-use Rattle.std.specs.Prelude.{◌≡◌, ℕ, zero, suc, ◌<◌, nat_lt, Bool, List, [], ◌∷◌, map, codes, Result, Ok, Err}
+-- What the code's readers answer.
+use Rattle.std.specs.Prelude.{◌≡◌, ℕ, zero, suc, ◌<◌, nat_lt, Bool, List, [], ◌∷◌, ◌++◌, Result, Ok, Err}
 use Rattle.std.specs.Borrow.{Bor}
-use Rattle.qtt_phrase.specs.Reading.{Kind, Read}
+use Rattle.qtt_base.specs.declared.place.Span.{Span}
+use Rattle.qtt_phrase.specs.Reading.{Kind, Read, ◌>>=◌}
 use Rattle.qtt_phrase.specs.Reading.Kind.{unexpected, too_deep}
 use Rattle.qtt_phrase.specs.Reading.Read.{got, bad, over}
 use Rattle.qtt_grammar.specs.declared.class.Pass.{Pass}
-use Rattle.qtt_grammar.specs.declared.lexeme.Word.{Word}
-use Rattle.qtt_grammar.specs.declared.lexeme.Word.TheVariants.{Nothing, Underscore, Name}
-use Rattle.qtt_grammar.specs.declared.lexeme.Lexeme as code
 use Rattle.qtt_grammar.specs.declared.stop.Excess.{Excess}
 use Rattle.qtt_grammar.specs.declared.stop.Reason.{Reason}
 use Rattle.qtt_grammar.specs.declared.stop.Reason.TheVariants as reason
 use Rattle.qtt_grammar.specs.declared.stop.Stop.{Stop}
 use Rattle.qtt_grammar.specs.declared.stop.Stop.TheVariants as stop
 use Rattle.qtt_syntax.specs.Tree.{Tree}
-use Rattle.qtt_syntax.specs.View.{tree_of}
+use Rattle.qtt_syntax.specs.View.{tree_of, written_type}
 use Rattle.qtt_syntax.specs.declared.expr.Expr.{Expr}
-use Rattle.qtt_grammar.specs.Lexeme.{Lexeme}
-use Rattle.qtt_grammar.specs.Readers.{Reads, LevelReader, simple_reader, levels_at}
-
-abbrev pub name_of : Word → List ℕ
-name_of Nothing = []
-name_of Underscore = codes "_"
-name_of (Name n) = n.now
-
-abbrev pub lexeme_view : code.Lexeme → Lexeme
-lexeme_view x = record { class = x.class; place = x.place; name = name_of x.name; text = x.text.now; number = x.number; number_place = x.number_place; found = x.found.now }
-
-abbrev pub seen : List code.Lexeme → List Lexeme
-seen = map lexeme_view
+use Rattle.qtt_grammar.specs.Grammar.{LetParts}
+use Rattle.qtt_grammar.specs.declared.block.LetHead.{LetHead}
+use Rattle.qtt_grammar.specs.declared.lexeme.Lexeme.{Lexeme}
+use Rattle.qtt_grammar.specs.Readers.{LevelReader, simple_reader, levels_at}
 
 abbrev pub kind_of : Reason → Kind
 kind_of reason.Unexpected = unexpected
@@ -36,8 +25,8 @@ kind_of reason.TooDeep = too_deep
 
 abbrev pub Fails : {A : Type 0} → Stop → Read Lexeme Excess A → Type 0
 Fails stop.Memory read = Unit {0}
-Fails (stop.Bad r rest) read = read ≡ bad (kind_of r) (seen rest.now)
-Fails (stop.Over e rest) read = read ≡ over e (seen rest.now)
+Fails (stop.Bad r rest) read = read ≡ bad (kind_of r) rest.now
+Fails (stop.Over e rest) read = read ≡ over e rest.now
 
 -- What a function returned, shown so, is what reading gives, unless memory ran out.
 abbrev pub Gives : {X A : Type 0} → (X → Read Lexeme Excess A) → Result X Stop → Read Lexeme Excess A → Type 0
@@ -46,11 +35,20 @@ Gives shown (Err e) read = Fails e read
 
 -- the lexemes that are still to be read
 abbrev pub Rest : Type 0
-Rest = Bor (List code.Lexeme)
+Rest = Bor (List Lexeme)
 
 -- the same for a value, shown so, and the lexemes behind it
 abbrev pub Answers : {X A : Type 0} → (X → A) → Result (X × Rest) Stop → Read Lexeme Excess A → Type 0
-Answers shown = Gives (λ x. got (shown x.0) (seen x.1.now))
+Answers shown = Gives (λ x. got (shown x.0) x.1.now)
+
+-- the same with these in front of the list that is read
+abbrev pub with_front : {A : Type 0} → List A → Read Lexeme Excess (List A) → Read Lexeme Excess (List A)
+with_front front read = read >>= λ more rest. got (front ++ more) rest
+
+-- the place of the first lexeme
+abbrev pub first_place_at : List Lexeme → Read Lexeme Excess Span
+first_place_at [] = bad unexpected []
+first_place_at (x ∷ ls) = got x.place (x ∷ ls)
 
 -- the readers of the level below
 unfoldable pub below : Pass → ℕ → LevelReader
@@ -58,7 +56,7 @@ below pass zero = simple_reader
 below pass (suc d) = levels_at pass d
 
 -- a reader of a level inside which so many others may open
-abbrev pub inside : {A : Type 0} → (Pass → Bool → LevelReader → Reads A) → Pass → ℕ → Reads A
+abbrev pub inside : {R : Type 0} → (Pass → Bool → LevelReader → R) → Pass → ℕ → R
 inside reader pass n = reader pass (nat_lt 0 n) (below pass n)
 
 -- a function reads the expressions of each level below n: it may be called there, and
@@ -67,4 +65,8 @@ MayReadBelow n may = (m : ℕ) (tail : Bool) (rest : Rest) → m < n → may m t
 
 -- answers what the level's reader gives
 abbrev pub ReadsBelow : Pass → ℕ → (ℕ → Bool → Rest → Result (Expr × Rest) Stop → Type 0) → Type 0
-ReadsBelow pass n gives = (m : ℕ) (tail : Bool) (rest : Rest) (answer : Result (Expr × Rest) Stop) → m < n → gives m tail rest answer → Answers tree_of answer ((levels_at pass m).expr tail (seen rest.now))
+ReadsBelow pass n gives = (m : ℕ) (tail : Bool) (rest : Rest) (answer : Result (Expr × Rest) Stop) → m < n → gives m tail rest answer → Answers tree_of answer ((levels_at pass m).expr tail rest.now)
+
+-- what a `let` binds
+abbrev pub let_parts_of : LetHead → LetParts
+let_parts_of h = (h.span, (h.mult, (h.name, (written_type h.ty, tree_of h.value))))

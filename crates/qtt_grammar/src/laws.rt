@@ -5,7 +5,7 @@ ghost use Rattle.qtt_phrase.specs.Phrase.{FirstBad, Settles};
 ghost use Rattle.qtt_syntax.specs.Tree.{Module};
 ghost use Rattle.qtt_grammar.specs.declared.class.Pass.{Pass};
 ghost use Rattle.qtt_grammar.specs.declared.stop.Excess.{Excess};
-ghost use Rattle.qtt_grammar.specs.Lexeme.{Lexeme};
+ghost use Rattle.qtt_grammar.specs.declared.lexeme.Lexeme.{Lexeme};
 ghost use Rattle.qtt_grammar.specs.Grammar.{IsText};
 ghost use Rattle.qtt_grammar.specs.Answer.{HasAnswer};
 

@@ -1,8 +1,11 @@
 //! The grammar of module texts, and what reading them from left to right gives.
 #![tactic(auto)]
 
+mod application;
 mod binder;
+mod block;
 mod class;
+mod count;
 mod laws;
 mod level;
 mod lexeme;

@@ -29,9 +29,9 @@ pub enum Reason {
 pub enum Stop<'a> {
     Memory,
     /// The bad lexeme, and those behind it.
-    Bad(Reason, &'a [Lexeme<'a>]),
+    Bad(Reason, &'a [Lexeme]),
     /// A limit is passed; the lexemes behind the one that settles it.
-    Over(Excess, &'a [Lexeme<'a>]),
+    Over(Excess, &'a [Lexeme]),
 }
 
 impl<'a> From<MemoryError> for Stop<'a> {
