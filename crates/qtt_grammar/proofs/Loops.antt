@@ -1,7 +1,7 @@
 -- Loops that read one after another.
 use Rattle.std.proofs.Common.{◌≡◌, ℕ, zero, suc, ◌+◌, ◌-◌, ◌<◌, Bool, true, false, ◌&&◌, List, [], ◌∷◌, ◌++◌, refl, sym, ap, arith, append_assoc, ◌∙◌}
 use Rattle.std.proofs.lemmas.List.{append-nil}
-use Rattle.qtt_phrase.specs.Reading.{Kind, Read, ◌>>=◌, begins, run_at, ended}
+use Rattle.qtt_phrase.specs.Reading.{Kind, Read, ◌>>=◌, begins, run_at, ended, making_at}
 use Rattle.qtt_phrase.specs.Reading.Read.{got, bad, over}
 use Rattle.qtt_grammar.specs.declared.stop.Excess.{Excess}
 use Rattle.qtt_grammar.specs.declared.stop.Stop.{Stop}
@@ -64,3 +64,29 @@ module _ {A : Type 0} (test : Lexeme → Bool) (p : Reads A) (front : List A) (l
 
   pub alike_goes : (n i : ℕ) (r : List Lexeme) (a : A) → i < n → begins test ls ≡ true → p ls ≡ got a r → with_front front (run_alike test p (n - i) ls) ≡ total → with_front (front ++ a ∷ []) (run_alike test p (n - (i + 1)) r) ≡ total
   alike_goes n i r a lt b h so_far = goes_on {S = Unit {0}} (λ _. true) (λ _. true) (λ _ _. tt) (λ _. test) (λ _. p) front tt ls total n i r a lt b h so_far
+
+-- a value made of what reading stopped before
+pub made_stops : {A B : Type 0} (f : A → B) (p : Reads A) (ls : List Lexeme) (e : Stop) → Fails e (p ls) → Fails e (making_at f p ls)
+made_stops f p ls stop.Memory h = tt
+made_stops f p ls (stop.Bad r rest) h = rw h refl
+made_stops f p ls (stop.Over x rest) h = rw h refl
+
+-- what is read behind a front that is found already
+pub record Behind {A : Type 0} (front all : List A) (rest : List Lexeme) (r : Read Lexeme Excess (List A)) : Type 0 where
+  pub more : List A
+  pub read : r ≡ got more rest
+  pub joins : front ++ more ≡ all
+
+pub behind : {A : Type 0} (front all : List A) (rest : List Lexeme) (r : Read Lexeme Excess (List A)) → with_front front r ≡ got all rest → Behind front all rest r
+behind front all rest (got more ls) h = record { more = more; read = (let e = h in cc); joins = (let e = h in cc) }
+behind front all rest (bad k ls) h = absurd (let e = h in cc)
+behind front all rest (over x ls) h = absurd (let e = h in cc)
+
+pub behind_stops : {A : Type 0} (front : List A) (r : Read Lexeme Excess (List A)) (e : Stop) → Fails e (with_front front r) → Fails e r
+behind_stops front r stop.Memory h = tt
+behind_stops front (got more ls) (stop.Bad k rest) h = absurd (let e = h in cc)
+behind_stops front (bad k' ls) (stop.Bad k rest) h = h
+behind_stops front (over x ls) (stop.Bad k rest) h = h
+behind_stops front (got more ls) (stop.Over x rest) h = absurd (let e = h in cc)
+behind_stops front (bad k' ls) (stop.Over x rest) h = h
+behind_stops front (over x' ls) (stop.Over x rest) h = h

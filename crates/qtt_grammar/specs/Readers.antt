@@ -1,5 +1,5 @@
 -- Reading the grammar.
-use Rattle.std.specs.Prelude.{ℕ, zero, suc, Bool, true, false, cond, ◌&&◌, ◌||◌, List, [], ◌∷◌, Some, None}
+use Rattle.std.specs.Prelude.{ℕ, zero, suc, Bool, true, false, cond, ◌&&◌, ◌||◌, List, [], ◌∷◌, Option, Some, None}
 use Rattle.qtt_base.specs.declared.place.Span.{Span}
 use Rattle.qtt_base.specs.declared.limits.Quantity.{Quantity}
 use Rattle.qtt_base.specs.declared.limits.Quantity.TheVariants as quantity
@@ -163,8 +163,11 @@ module _ (pass : Pass) (may : Bool) (inner : LevelReader) where
   unfoldable pub app_at : Reads Tree
   app_at = either_at (begins (of is_the)) the_at (either_at (begins (of is_name)) named_app_at other_app_at)
 
+  abbrev pub codomain_at : Reads (Option Tree)
+  codomain_at = perhaps_at (of is_arrow) None (making_at behind_of (then_at (opener_at may is_arrow) (inner.expr false)))
+
   unfoldable pub arrow_at : Reads Tree
-  arrow_at = making_at arrow_of (then_at (placed_at place app_at) (perhaps_at (of is_arrow) None (making_at behind_of (then_at (opener_at may is_arrow) (inner.expr false)))))
+  arrow_at = making_at arrow_of (then_at (placed_at place app_at) codomain_at)
 
   unfoldable pub pi_at : Reads Tree
   pi_at = making_at pi_of (then_at typed_at (then_at (opener_at may is_arrow) (inner.expr false)))
@@ -178,8 +181,11 @@ module _ (pass : Pass) (may : Bool) (inner : LevelReader) where
   unfoldable pub expr_at : Bool → Reads Tree
   expr_at tail = either_at (begins (of is_let)) (letting_at tail) (other_expr_at tail)
 
+  abbrev pub body_at : Bool → Reads (Option Tree)
+  body_at tail = perhaps_at (of is_in) None (making_at after_in (then_at (symbol_at is_in) (inner.expr tail)))
+
   unfoldable pub let_statement_at : Bool → Reads Statement
-  let_statement_at tail = making_at let_statement_of (then_at let_head_at (perhaps_at (of is_in) None (making_at after_in (then_at (symbol_at is_in) (inner.expr tail)))))
+  let_statement_at tail = making_at let_statement_of (then_at let_head_at (body_at tail))
 
   unfoldable pub binding_at : Reads Statement
   binding_at = making_at bind_of (then_at (local_at is_bname) (then_at (symbol_at is_left_arrow) (expr_at false)))

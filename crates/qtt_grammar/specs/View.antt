@@ -45,6 +45,10 @@ Answers shown = Gives (λ x. got (shown x.0) x.1.now)
 abbrev pub with_front : {A : Type 0} → List A → Read Lexeme Excess (List A) → Read Lexeme Excess (List A)
 with_front front read = read >>= λ more rest. got (front ++ more) rest
 
+-- the first one and those behind it
+abbrev pub both : {A : Type 0} → A × List A → List A
+both (a, more) = a ∷ more
+
 -- the place of the first lexeme
 abbrev pub first_place_at : List Lexeme → Read Lexeme Excess Span
 first_place_at [] = bad unexpected []

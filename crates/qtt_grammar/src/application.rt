@@ -1,11 +1,11 @@
 //! Applications and arrows.
 
-ghost use Rattle.std.specs.Prelude.{◌≡◌, map, IfOk};
+ghost use Rattle.std.specs.Prelude.{◌≡◌, map, option_map, IfOk};
 ghost use Rattle.qtt_phrase.specs.Reading.{many_at, making_at};
 ghost use Rattle.qtt_syntax.specs.View.{tree_of, argument_of};
 ghost use Rattle.qtt_grammar.specs.Classes.{starts_atom, is_left_brace};
-ghost use Rattle.qtt_grammar.specs.Grammar.{of, written_of, app_of};
-ghost use Rattle.qtt_grammar.specs.Readers.{bracket_at, other_atom_at, atom_at, brace_at, the_at, named_app_at, other_app_at, app_at, arrow_at};
+ghost use Rattle.qtt_grammar.specs.Grammar.{of, written_of, app_of, arrow_of};
+ghost use Rattle.qtt_grammar.specs.Readers.{bracket_at, other_atom_at, atom_at, brace_at, the_at, named_app_at, other_app_at, app_at, codomain_at, arrow_at};
 ghost use Rattle.qtt_grammar.specs.View.{Answers, inside, with_front, MayReadBelow, ReadsBelow};
 
 use crate::class::Class;
@@ -235,8 +235,49 @@ pub fn app<'a, E: Fn(u32, bool, Rest<'a>) -> Reading<'a, Expr>>(
     }
 }
 
+/// What stands behind an arrow, if there is one.
+#[tactic(auto, using(crate::proofs::Below::below_is))]
+pub fn codomain<'a, E: Fn(u32, bool, Rest<'a>) -> Reading<'a, Expr>>(
+    level: Level,
+    read: &E,
+    laid: Rest<'a>,
+) -> Reading<'a, Option<Expr>>
+    requires callable { MayReadBelow level.left (E.pre read.now) }
+    requires reads { ReadsBelow level.pass level.left (E.post read.now) }
+    ensures { Answers (option_map tree_of) result (inside codomain_at level.pass level.left laid.now) }
+{
+    if !begins(Class::Arrow, laid) {
+        return Ok((None, laid));
+    }
+    let (_, rest) = opener(Class::Arrow, level.left, laid)?;
+    let (codomain, rest) = read(level.left - 1, false, rest)?;
+    Ok((Some(codomain), rest))
+}
+
+// The function type, or the domain alone where nothing stands behind it.
+fn arrow_type(
+    alloc: Global,
+    domain: Expr,
+    codomain: Option<Expr>,
+    span: Span,
+) -> Result<Expr, MemoryError>
+    ensures { IfOk result (λ t. tree_of t ≡ arrow_of ((span, tree_of domain), option_map tree_of codomain)) }
+{
+    let Some(codomain) = codomain else {
+        return Ok(domain);
+    };
+    Ok(Expr::Pi {
+        mark: Mark::Written,
+        mult: Mult::Many,
+        name: unnamed(alloc)?,
+        domain: Box::new(alloc, domain)?,
+        codomain: Box::new(alloc, codomain)?,
+        span,
+    })
+}
+
 /// An application, or an arrow that begins with it.
-#[tactic(auto, using(crate::proofs::Below::below_is), unfolding(crate::specs::Readers::arrow_at))]
+#[tactic(auto, unfolding(crate::specs::Readers::arrow_at))]
 pub fn arrow<'a, E: Fn(u32, bool, Rest<'a>) -> Reading<'a, Expr>>(
     level: Level,
     read: &E,
@@ -248,20 +289,6 @@ pub fn arrow<'a, E: Fn(u32, bool, Rest<'a>) -> Reading<'a, Expr>>(
 {
     let span = first_place(laid)?;
     let (domain, rest) = app(level, read, laid)?;
-    if !begins(Class::Arrow, rest) {
-        return Ok((domain, rest));
-    }
-    let (_, rest) = opener(Class::Arrow, level.left, rest)?;
-    let (codomain, rest) = read(level.left - 1, false, rest)?;
-    Ok((
-        Expr::Pi {
-            mark: Mark::Written,
-            mult: Mult::Many,
-            name: unnamed(level.alloc)?,
-            domain: Box::new(level.alloc, domain)?,
-            codomain: Box::new(level.alloc, codomain)?,
-            span,
-        },
-        rest,
-    ))
+    let (codomain, rest) = codomain(level, read, rest)?;
+    Ok((arrow_type(level.alloc, domain, codomain, span)?, rest))
 }

@@ -1,12 +1,12 @@
 //! Binders.
 
 ghost use Rattle.std.specs.Prelude.{map};
-ghost use Rattle.qtt_phrase.specs.Reading.{many_at};
-ghost use Rattle.qtt_syntax.specs.View.{binder_of};
+ghost use Rattle.qtt_phrase.specs.Reading.{many_at, making_at, then_at};
+ghost use Rattle.qtt_syntax.specs.View.{tree_of, binder_of};
 ghost use Rattle.qtt_grammar.specs.Classes.{starts_binder};
 ghost use Rattle.qtt_grammar.specs.Grammar.{of};
-ghost use Rattle.qtt_grammar.specs.Readers.{typed_at, binder_at};
-ghost use Rattle.qtt_grammar.specs.View.{Answers, inside, with_front, MayReadBelow, ReadsBelow};
+ghost use Rattle.qtt_grammar.specs.Readers.{typed_at, binder_at, lambda_at};
+ghost use Rattle.qtt_grammar.specs.View.{Answers, inside, with_front, both, MayReadBelow, ReadsBelow};
 
 use crate::class::Class;
 use crate::level::Level;
@@ -82,4 +82,47 @@ pub fn more_binders<'a, E: Fn(u32, bool, Rest<'a>) -> Reading<'a, Expr>>(
         rest = after;
     }
     Ok((found, rest))
+}
+
+/// The binders of a `\`.
+#[tactic(auto)]
+pub fn some_binders<'a, E: Fn(u32, bool, Rest<'a>) -> Reading<'a, Expr>>(
+    level: Level,
+    read: &E,
+    laid: Rest<'a>,
+) -> Reading<'a, Vec<Binder>>
+    requires callable { MayReadBelow level.left (E.pre read.now) }
+    requires reads { ReadsBelow level.pass level.left (E.post read.now) }
+    ensures { Answers (λ v. map binder_of v.items) result (making_at both (then_at (inside binder_at level.pass level.left) (many_at (of starts_binder) (inside binder_at level.pass level.left))) laid.now) }
+{
+    let (first, rest) = binder(level, read, laid)?;
+    let mut found = Vec::new(level.alloc);
+    found.push(first)?;
+    more_binders(level, read, found, rest)
+}
+
+/// `\ binders => body`
+#[tactic(auto, using(crate::proofs::Below::below_is), unfolding(crate::specs::Readers::lambda_at))]
+pub fn lambda<'a, E: Fn(u32, bool, Rest<'a>) -> Reading<'a, Expr>>(
+    level: Level,
+    read: &E,
+    tail: bool,
+    laid: Rest<'a>,
+) -> Reading<'a, Expr>
+    requires callable { MayReadBelow level.left (E.pre read.now) }
+    requires reads { ReadsBelow level.pass level.left (E.post read.now) }
+    ensures { Answers tree_of result (inside lambda_at level.pass level.left tail laid.now) }
+{
+    let (span, rest) = opener(Class::Backslash, level.left, laid)?;
+    let (binders, rest) = some_binders(level, read, rest)?;
+    let (_, rest) = symbol(Class::FatArrow, rest)?;
+    let (body, rest) = read(level.left - 1, tail, rest)?;
+    Ok((
+        Expr::Lambda {
+            binders,
+            body: Box::new(level.alloc, body)?,
+            span,
+        },
+        rest,
+    ))
 }
