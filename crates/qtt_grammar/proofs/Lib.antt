@@ -2,6 +2,7 @@ pub mod Below
 pub mod Loops
 pub mod Trees
 pub mod Applied
+pub mod Statements
 pub mod Decide
 pub mod Sets
 pub mod Levels

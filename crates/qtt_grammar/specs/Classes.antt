@@ -230,6 +230,20 @@ starts_pattern LeftParen = true
 starts_pattern DotParen = true
 starts_pattern _ = false
 
+-- what opens a nesting level where it begins a statement
+abbrev pub opens_statement : Class → Bool
+opens_statement Backslash = true
+opens_statement Let = true
+opens_statement Do = true
+opens_statement LeftParen = true
+opens_statement _ = false
+
+-- what opens a nesting level where it begins a pattern
+abbrev pub opens_pattern : Class → Bool
+opens_pattern LeftParen = true
+opens_pattern DotParen = true
+opens_pattern _ = false
+
 -- what begins an item
 abbrev pub starts_item : Class → Bool
 starts_item Data = true

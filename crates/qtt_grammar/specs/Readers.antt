@@ -133,8 +133,11 @@ module _ (pass : Pass) (may : Bool) (inner : LevelReader) where
   unfoldable pub lines_at : Bool → Line → Reads (List Statement)
   lines_at tail = all_at may_end may_go next_line (λ _. of is_next) (line_at tail)
 
+  abbrev pub block_at : Bool → Reads (Statement × List Statement)
+  block_at tail = chain_at (inner.statement tail) (λ s. lines_at tail (1, standing_of s))
+
   unfoldable pub doing_at : Bool → Reads Tree
-  doing_at tail = making_at do_of (then_at (opener_at may is_do) (then_at (symbol_at is_open) (then_at (chain_at (inner.statement tail) (λ s. lines_at tail (1, standing_of s))) (symbol_at is_close))))
+  doing_at tail = making_at do_of (then_at (opener_at may is_do) (then_at (symbol_at is_open) (then_at (block_at tail) (symbol_at is_close))))
 
   unfoldable pub bracket_at : Reads Tree
   bracket_at = making_at bracket_of (then_at (opener_at may is_left_paren) (then_at (inner.expr false) (symbol_at is_right_paren)))

@@ -5,7 +5,7 @@ ghost use Rattle.qtt_syntax.specs.View.{tree_of, written_type, statement_of};
 ghost use Rattle.qtt_grammar.specs.Grammar.{of, place, let_of, let_statement_of, run_of};
 ghost use Rattle.qtt_grammar.specs.Classes.{is_let};
 ghost use Rattle.qtt_phrase.specs.Reading.{begins, making_at, placed_at};
-ghost use Rattle.qtt_grammar.specs.Readers.{annotation_at, let_head_at, letting_at, body_at, let_statement_at, binding_at, other_expr_at, statement_at};
+ghost use Rattle.qtt_grammar.specs.Readers.{annotation_at, let_head_at, letting_at, body_at, let_statement_at, binding_at, expr_at, other_expr_at, statement_at};
 ghost use Rattle.qtt_grammar.specs.View.{Answers, inside, MayReadBelow, ReadsBelow, let_parts_of};
 
 use crate::class::Class;
@@ -190,6 +190,21 @@ pub fn binding<'a, E: Fn(u32, bool, Rest<'a>) -> Reading<'a, Expr>>(
     Ok((Statement::Bind { name, value }, rest))
 }
 
+/// An expression of this level.
+#[tactic(auto, using(crate::proofs::Below::level_is))]
+pub fn here<'a, E: Fn(u32, bool, Rest<'a>) -> Reading<'a, Expr>>(
+    level: Level,
+    read: &E,
+    tail: bool,
+    laid: Rest<'a>,
+) -> Reading<'a, Expr>
+    requires callable { MayReadBelow (level.left + 1) (E.pre read.now) }
+    requires reads { ReadsBelow level.pass (level.left + 1) (E.post read.now) }
+    ensures { Answers tree_of result (inside expr_at level.pass level.left tail laid.now) }
+{
+    read(level.left, tail, laid)
+}
+
 /// A statement that is an expression and begins with no `let`.
 #[tactic(auto, using(crate::proofs::Below::level_is))]
 pub fn run<'a, E: Fn(u32, bool, Rest<'a>) -> Reading<'a, Expr>>(
@@ -204,7 +219,7 @@ pub fn run<'a, E: Fn(u32, bool, Rest<'a>) -> Reading<'a, Expr>>(
     ensures { Answers statement_of result (making_at run_of (placed_at place (inside other_expr_at level.pass level.left tail)) laid.now) }
 {
     let span = first_place(laid)?;
-    let (value, rest) = read(level.left, tail, laid)?;
+    let (value, rest) = here(level, read, tail, laid)?;
     Ok((Statement::Run { value, span }, rest))
 }
 

@@ -1,7 +1,8 @@
 //! What the grammar asks of a mark or a token.
 
 ghost use Rattle.std.specs.Prelude.{◌≡◌};
-ghost use Rattle.qtt_grammar.specs.Classes.{rank, same, is_name, is_simple, is_constructor, is_bname, is_digit, is_natural, is_word, is_pattern_word, starts_atom, starts_binder, starts_pattern, starts_item};
+ghost use Rattle.qtt_grammar.specs.Classes.{rank, same, is_name, is_simple, is_constructor, is_bname, is_digit, is_natural, is_word, is_pattern_word, starts_atom, starts_binder, starts_pattern, starts_item, opens_statement, opens_pattern};
+ghost use Rattle.qtt_grammar.specs.Readers.{statement_starts};
 
 /// The form of a mark or a token, as far as the grammar tells forms apart.
 #[derive(Clone, Copy, Debug, PartialEq, Eq)]
@@ -195,5 +196,34 @@ impl Class {
             self,
             Class::Data | Class::Partial | Class::Zero | Class::Small | Class::Big
         )
+    }
+
+    /// What begins a statement only as it opens a nesting level.
+    pub fn opens_statement(self) -> bool
+        ensures { result ≡ opens_statement self }
+    {
+        matches!(
+            self,
+            Class::Backslash | Class::Let | Class::Do | Class::LeftParen
+        )
+    }
+
+    /// What begins a statement where another level may open, or where none may.
+    pub fn starts_statement(self, may: bool, tail: bool) -> bool
+        ensures { result ≡ statement_starts may tail self }
+    {
+        match self {
+            Class::Backslash | Class::Let | Class::Do | Class::LeftParen => may,
+            Class::Hole => tail,
+            Class::The | Class::Wildcard => true,
+            _ => self.starts_atom(),
+        }
+    }
+
+    /// What opens a nesting level before a pattern.
+    pub fn opens_pattern(self) -> bool
+        ensures { result ≡ opens_pattern self }
+    {
+        matches!(self, Class::LeftParen | Class::DotParen)
     }
 }

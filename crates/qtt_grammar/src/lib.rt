@@ -9,6 +9,7 @@ mod count;
 mod laws;
 mod level;
 mod lexeme;
+mod lines;
 mod stop;
 mod token;
 
