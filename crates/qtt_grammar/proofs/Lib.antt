@@ -3,6 +3,7 @@ pub mod Loops
 pub mod Trees
 pub mod Applied
 pub mod Statements
+pub mod Lambdas
 pub mod Decide
 pub mod Sets
 pub mod Levels

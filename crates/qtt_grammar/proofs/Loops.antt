@@ -8,7 +8,7 @@ use Rattle.qtt_grammar.specs.declared.stop.Stop.{Stop}
 use Rattle.qtt_grammar.specs.declared.stop.Stop.TheVariants as stop
 use Rattle.qtt_grammar.specs.declared.lexeme.Lexeme.{Lexeme}
 use Rattle.qtt_grammar.specs.Readers.{Reads}
-use Rattle.qtt_grammar.specs.View.{Fails, kind_of, with_front}
+use Rattle.qtt_grammar.specs.View.{Fails, kind_of, with_front, both}
 
 with_more : {A : Type 0} (front : List A) (a : A) (r : Read Lexeme Excess (List A)) → with_front front (r >>= λ b s. got (a ∷ b) s) ≡ with_front (front ++ a ∷ []) r
 with_more front a (got x ls) = ap (λ (v : List _). got v ls) (sym (append_assoc front (a ∷ []) x))
@@ -90,3 +90,17 @@ behind_stops front (over x ls) (stop.Bad k rest) h = h
 behind_stops front (got more ls) (stop.Over x rest) h = absurd (let e = h in cc)
 behind_stops front (bad k' ls) (stop.Over x rest) h = h
 behind_stops front (over x' ls) (stop.Over x rest) h = h
+
+-- the first one and those behind it, apart
+pub record Apart {A : Type 0} (all : List A) (rest : List Lexeme) (r : Read Lexeme Excess (A × List A)) : Type 0 where
+  pub first : A
+  pub more : List A
+  pub read : r ≡ got (first, more) rest
+  pub joins : first ∷ more ≡ all
+
+pub apart : {A : Type 0} (p : Reads (A × List A)) (ls : List Lexeme) (all : List A) (rest : List Lexeme) → making_at both p ls ≡ got all rest → Apart all rest (p ls)
+apart p ls all rest h = apart_by (p ls) all rest h where
+  apart_by : {A : Type 0} (r : Read Lexeme Excess (A × List A)) (all : List A) (rest : List Lexeme) → (r >>= λ a s. got (both a) s) ≡ got all rest → Apart all rest r
+  apart_by (got (a, more) ls) all rest h = record { first = a; more = more; read = (let e = h in cc); joins = (let e = h in cc) }
+  apart_by (bad k ls) all rest h = absurd (let e = h in cc)
+  apart_by (over x ls) all rest h = absurd (let e = h in cc)

@@ -108,6 +108,10 @@ bad_pattern_start false class.LeftParen = too_deep
 bad_pattern_start false class.DotParen = too_deep
 bad_pattern_start may c = unexpected
 
+-- a pattern of a level, before which there are so many
+abbrev pub one_pattern_at : Pass → LevelReader → ℕ → Reads Shape
+one_pattern_at pass level = up_to_at pass quantity.Parts level.starts_pattern level.bad_pattern level.pattern
+
 module _ (pass : Pass) (may : Bool) (inner : LevelReader) where
   unfoldable pub typed_at : Reads Binder
   typed_at = making_at typed_of (then_at (opener_at may is_left_paren) (then_at mark_at (then_at (local_at is_bname) (then_at (symbol_at is_colon) (then_at (inner.expr false) (symbol_at is_right_paren))))))
@@ -203,7 +207,7 @@ module _ (pass : Pass) (may : Bool) (inner : LevelReader) where
   typing_at = either_at (begins (of is_left_brace)) implicit_at (expr_at false)
 
   unfoldable pub patterns_at : ℕ → Reads (List Shape)
-  patterns_at = counted_at (λ n _. suc n) (of starts_pattern) (up_to_at pass quantity.Parts inner.starts_pattern inner.bad_pattern inner.pattern)
+  patterns_at = counted_at (λ n _. suc n) (of starts_pattern) (one_pattern_at pass inner)
 
   unfoldable pub inside_at : Reads (Span → Shape)
   inside_at = either_at (begins (of is_constructor)) (making_at group_of (then_at (token_at (λ _. None) (of is_constructor) named_of) (patterns_at 0))) (making_at nested_of inner.other_pattern)
@@ -288,7 +292,7 @@ module _ (pass : Pass) (top inner : LevelReader) where
   signing_at n = making_at (signature_of n) (then_at (symbol_at is_colon) top.typing)
 
   unfoldable pub clause_patterns_at : ℕ → Reads (List Shape)
-  clause_patterns_at = counted_at (λ n _. suc n) (of starts_pattern) (up_to_at pass quantity.Parts top.starts_pattern top.bad_pattern top.pattern)
+  clause_patterns_at = counted_at (λ n _. suc n) (of starts_pattern) (one_pattern_at pass top)
 
   unfoldable pub equation_at : Local → Reads Item
   equation_at n = making_at (clause_of n) (then_at (clause_patterns_at 0) (then_at (symbol_at is_equals) (top.expr true)))

@@ -6,12 +6,15 @@ mod binder;
 mod block;
 mod class;
 mod count;
+mod expr;
 mod laws;
 mod level;
 mod lexeme;
 mod lines;
+mod pattern;
 mod stop;
 mod token;
+mod typing;
 
 pub use class::{Class, Pass, Standing};
 pub use laws::{

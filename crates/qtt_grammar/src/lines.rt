@@ -5,7 +5,7 @@ ghost use Rattle.qtt_phrase.specs.Reading.{making_at, cap_at, begins, ended};
 ghost use Rattle.qtt_syntax.specs.Tree as tree;
 ghost use Rattle.qtt_syntax.specs.View.{tree_of, statement_of};
 ghost use Rattle.qtt_grammar.specs.Classes.{is_next};
-ghost use Rattle.qtt_grammar.specs.Grammar.{of, ends_in_hole, standing_of, may_go, may_end};
+ghost use Rattle.qtt_grammar.specs.Grammar.{of, ends_in_hole, statement_in_hole, standing_of, may_go, may_end};
 ghost use Rattle.qtt_grammar.specs.Limits.{one_above};
 ghost use Rattle.qtt_grammar.specs.Readers.{statement_starts, bad_start, line_at, block_at, lines_at, doing_at};
 ghost use Rattle.qtt_grammar.specs.View.{Answers, Fails, inside, with_front, both, MayReadBelow, ReadsBelow};
@@ -20,6 +20,7 @@ use qtt_base::Quantity;
 use qtt_syntax::{Expr, Statement};
 
 // A hole stands in tail position.
+#[cycle(hole)]
 fn ends_in_hole(expr: &Expr) -> bool
     ensures { result ≡ ends_in_hole (tree_of expr.now) }
 {
@@ -28,10 +29,21 @@ fn ends_in_hole(expr: &Expr) -> bool
         Expr::Lambda { body, .. } => ends_in_hole(body),
         Expr::Let { body, .. } => ends_in_hole(body),
         Expr::Do { statements, .. } => match statements.last() {
-            Some(Statement::Run { value, .. }) => ends_in_hole(value),
-            Some(Statement::Bind { .. } | Statement::Let { .. }) | None => false,
+            Some(last) => is_in_hole(last),
+            None => false,
         },
         _ => false,
+    }
+}
+
+#[cycle(hole)]
+fn is_in_hole(statement: &Statement) -> bool
+    ensures { result ≡ statement_in_hole (statement_of statement.now) }
+{
+    match statement {
+        Statement::Run { value, .. } => ends_in_hole(value),
+        Statement::Bind { .. } => false,
+        Statement::Let { .. } => false,
     }
 }
 
