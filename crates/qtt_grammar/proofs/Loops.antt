@@ -104,3 +104,21 @@ apart p ls all rest h = apart_by (p ls) all rest h where
   apart_by (got (a, more) ls) all rest h = record { first = a; more = more; read = (let e = h in cc); joins = (let e = h in cc) }
   apart_by (bad k ls) all rest h = absurd (let e = h in cc)
   apart_by (over x ls) all rest h = absurd (let e = h in cc)
+
+-- ---- loops that count what they read
+
+abbrev pub counted_run : {A : Type 0} → (Lexeme → Bool) → (ℕ → Reads A) → ℕ → ℕ → Reads (List A)
+counted_run test p m k = run_at (λ _. true) (λ _. true) (λ n _. suc n) (λ _. test) p m k
+
+module _ {A : Type 0} (test : Lexeme → Bool) (p : ℕ → Reads A) (front : List A) (k : ℕ) (ls : List Lexeme) (total : Read Lexeme Excess (List A)) where
+  pub counted_ends : (m : ℕ) → begins test ls ≡ false → with_front front (counted_run test p m k ls) ≡ total → total ≡ got front ls
+  counted_ends m b so_far = ends_here (λ _. true) (λ _. true) (λ n _. suc n) (λ _. test) p front k ls total m b so_far ∙ ended_got front ls
+
+  pub counted_out : (m : ℕ) → m ≡ 0 → with_front front (counted_run test p m k ls) ≡ total → total ≡ got front ls
+  counted_out m e so_far = ends_out (λ _. true) (λ _. true) (λ n _. suc n) (λ _. test) p front k ls total m e so_far ∙ ended_got front ls
+
+  pub counted_stops : (e : Stop) (n i : ℕ) → i < n → begins test ls ≡ true → Fails e (p k ls) → with_front front (counted_run test p (n - i) k ls) ≡ total → Fails e total
+  counted_stops e n i lt b h so_far = stops_by (λ _. true) (λ _. true) (λ n _. suc n) (λ _. test) p front k ls total e n i lt b h so_far
+
+  pub counted_goes : (n i : ℕ) (r : List Lexeme) (a : A) → i < n → begins test ls ≡ true → p k ls ≡ got a r → with_front front (counted_run test p (n - i) k ls) ≡ total → with_front (front ++ a ∷ []) (counted_run test p (n - (i + 1)) (suc k) r) ≡ total
+  counted_goes n i r a lt b h so_far = goes_on (λ _. true) (λ _. true) (λ n _. suc n) (λ _. test) p front k ls total n i r a lt b h so_far

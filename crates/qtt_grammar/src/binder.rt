@@ -9,7 +9,7 @@ ghost use Rattle.qtt_grammar.specs.Readers.{typed_at, binder_at, lambda_at};
 ghost use Rattle.qtt_grammar.specs.View.{Answers, inside, with_front, both, MayReadBelow, ReadsBelow};
 
 use crate::class::Class;
-use crate::level::Level;
+use crate::level::{Level, inner};
 use crate::token::{Reading, Rest, begins_binders, bound_name, mark, opener, symbol};
 use qtt_syntax::{Binder, Expr};
 
@@ -116,7 +116,7 @@ pub fn lambda<'a, E: Fn(u32, bool, Rest<'a>) -> Reading<'a, Expr>>(
     let (span, rest) = opener(Class::Backslash, level.left, laid)?;
     let (binders, rest) = some_binders(level, read, rest)?;
     let (_, rest) = symbol(Class::FatArrow, rest)?;
-    let (body, rest) = read(level.left - 1, tail, rest)?;
+    let (body, rest) = inner(level, read, tail, rest)?;
     Ok((
         Expr::Lambda {
             binders,

@@ -110,6 +110,6 @@ pub fn expr<'a>(level: Level, tail: bool, laid: Rest<'a>) -> Reading<'a, Expr>
     let read = |left, tail, rest|
         requires { left < level.left }
         ensures { Answers tree_of result ((levels_at level.pass left).expr tail rest.now) }
-    { expr(Level { left, ..level }, tail, rest) };
+    { expr(level.at(left), tail, rest) };
     form(level, &read, tail, laid)
 }

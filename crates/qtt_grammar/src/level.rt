@@ -1,8 +1,12 @@
 //! A nesting level.
 
-ghost use Rattle.std.specs.Prelude.{◌≡◌, ◌-◌, ◌<◌};
+ghost use Rattle.std.specs.Prelude.{◌≡◌, ◌-◌, ◌<◌, ◌≤◌};
+ghost use Rattle.qtt_syntax.specs.View.{tree_of};
+ghost use Rattle.qtt_grammar.specs.View.{Answers, below, MayReadBelow, ReadsBelow};
 
 use crate::class::Pass;
+use crate::token::{Reading, Rest};
+use qtt_syntax::Expr;
 use std::alloc::Global;
 
 /// Where a form is read: inside it so many levels may open.
@@ -14,6 +18,14 @@ pub struct Level {
 }
 
 impl Level {
+    /// A level inside, or this one.
+    pub fn at(self, left: u32) -> Level
+        requires { left ≤ self.left }
+        ensures { result ≡ record self { left = left } }
+    {
+        Level { left, ..self }
+    }
+
     /// The level inside.
     pub fn below(self) -> Level
         requires { 0 < self.left }
@@ -24,4 +36,20 @@ impl Level {
             ..self
         }
     }
+}
+
+/// An expression of the level inside.
+#[tactic(auto, using(crate::proofs::Below::below_is))]
+pub fn inner<'a, E: Fn(u32, bool, Rest<'a>) -> Reading<'a, Expr>>(
+    level: Level,
+    read: &E,
+    tail: bool,
+    laid: Rest<'a>,
+) -> Reading<'a, Expr>
+    requires may { 0 < level.left }
+    requires callable { MayReadBelow level.left (E.pre read.now) }
+    requires reads { ReadsBelow level.pass level.left (E.post read.now) }
+    ensures { Answers tree_of result ((below level.pass level.left).expr tail laid.now) }
+{
+    read(level.left - 1, tail, laid)
 }
