@@ -38,6 +38,10 @@ local_at is = token_at (λ _. None) (of is) local_of
 unfoldable pub mark_at : Reads Mult
 mark_at = perhaps_at (of is_digit) mult.Many (token_at (λ _. None) (of is_digit) (λ x. mult_of x.class))
 
+-- a Next, where one stands
+abbrev pub next_at : Reads (Option Span)
+next_at = perhaps_at (of is_next) None (making_at Some (symbol_at is_next))
+
 unfoldable pub zero_at : Reads Mult
 zero_at = perhaps_at (of is_zero) mult.Many (token_at (λ _. None) (of is_zero) (λ x. mult_of x.class))
 
@@ -283,7 +287,7 @@ module _ (pass : Pass) (top inner : LevelReader) where
   family_at = making_at family_of (then_at (symbol_at is_data) (then_at (local_at is_big) (then_at (params_at 0) (then_at (symbol_at is_colon) (then_at (top.expr false) (then_at (symbol_at is_where) (then_at (symbol_at is_open) (then_at cons_at (symbol_at is_close)))))))))
 
   unfoldable pub partial_at : Reads Item
-  partial_at = making_at partial_of (then_at (symbol_at is_partial) (then_at (perhaps_at (of is_next) None (making_at Some (symbol_at is_next))) (then_at zero_at (then_at (local_at is_simple) (then_at (symbol_at is_colon) top.typing)))))
+  partial_at = making_at partial_of (then_at (symbol_at is_partial) (then_at next_at (then_at zero_at (then_at (local_at is_simple) (then_at (symbol_at is_colon) top.typing)))))
 
   unfoldable pub erased_at : Reads Item
   erased_at = making_at erased_of (then_at (symbol_at is_zero) (then_at (local_at is_simple) (then_at (symbol_at is_colon) top.typing)))

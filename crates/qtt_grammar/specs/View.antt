@@ -63,6 +63,10 @@ below pass (suc d) = levels_at pass d
 abbrev pub inside : {R : Type 0} → (Pass → Bool → LevelReader → R) → Pass → ℕ → R
 inside reader pass n = reader pass (nat_lt 0 n) (below pass n)
 
+-- a reader of items at a level
+abbrev pub within : {R : Type 0} → (Pass → LevelReader → LevelReader → R) → Pass → ℕ → R
+within reader pass n = reader pass (levels_at pass n) (below pass n)
+
 -- a function reads the expressions of each level below n: it may be called there, and
 abbrev pub MayReadBelow : ℕ → (ℕ → Bool → Rest → Type 0) → Type 0
 MayReadBelow n may = (m : ℕ) (tail : Bool) (rest : Rest) → m < n → may m tail rest

@@ -1,11 +1,11 @@
 //! Patterns.
 
-ghost use Rattle.std.specs.Prelude.{nat_lt, suc, map, None};
+ghost use Rattle.std.specs.Prelude.{◌≡◌, nat_lt, suc, map, None};
 ghost use Rattle.qtt_phrase.specs.Reading.{cap_at, counted_at, making_at, token_at};
 ghost use Rattle.qtt_syntax.specs.Tree as tree;
 ghost use Rattle.qtt_syntax.specs.View.{shape_of};
 ghost use Rattle.qtt_grammar.specs.Classes.{starts_pattern, is_constructor, is_pattern_word};
-ghost use Rattle.qtt_grammar.specs.Grammar.{of, named_of, bare_of, pattern_word};
+ghost use Rattle.qtt_grammar.specs.Grammar.{of, named_of, bare_of, group_of, pattern_word};
 ghost use Rattle.qtt_grammar.specs.Limits.{one_above};
 ghost use Rattle.qtt_grammar.specs.Readers.{pattern_starts, bad_pattern_start, one_pattern_at, dot_at, bracketed_at, levels_at};
 ghost use Rattle.qtt_grammar.specs.View.{Answers, Fails, inside};
@@ -18,8 +18,8 @@ use crate::stop::{Reason, Stop};
 use crate::token::{
     Reading, Rest, begins, begins_constructor, begins_pattern, opener, symbol, used_constructor,
 };
-use qtt_base::Quantity;
-use qtt_syntax::{Mark, Pattern};
+use qtt_base::{Quantity, Span};
+use qtt_syntax::{Mark, Named, Pattern};
 
 // Why no other pattern is read where as many as may be stand before.
 fn no_more<'a>(level: Level, laid: Rest<'a>) -> Stop<'a>
@@ -54,6 +54,27 @@ fn dot<'a>(level: Level, laid: Rest<'a>) -> Reading<'a, Pattern>
     ))
 }
 
+// A constructor with the patterns of its fields, in brackets at this place.
+fn group(head: Named, arguments: Vec<Pattern>, span: Span) -> Pattern
+    ensures { shape_of result ≡ group_of (head, map shape_of arguments.items) span }
+{
+    if arguments.is_empty() {
+        let span = head.span;
+        return Pattern::Constructor {
+            mark: Mark::Written,
+            head,
+            arguments,
+            span,
+        };
+    }
+    Pattern::Constructor {
+        mark: Mark::Written,
+        head,
+        arguments,
+        span,
+    }
+}
+
 // A constructor with the patterns of its fields in brackets, or a pattern in brackets.
 #[cycle(pattern)]
 #[tactic(auto, using(crate::proofs::Below::below_is), unfolding(crate::specs::Readers::bracketed_at, crate::specs::Readers::inside_at))]
@@ -69,20 +90,7 @@ fn bracketed<'a>(level: Level, laid: Rest<'a>) -> Reading<'a, Pattern>
     let (head, rest) = used_constructor(rest)?;
     let (arguments, rest) = patterns(level.below(), rest)?;
     let (_, rest) = symbol(Class::RightParen, rest)?;
-    let span = if arguments.is_empty() {
-        head.span
-    } else {
-        span
-    };
-    Ok((
-        Pattern::Constructor {
-            mark: Mark::Written,
-            head,
-            arguments,
-            span,
-        },
-        rest,
-    ))
+    Ok((group(head, arguments, span), rest))
 }
 
 // Another pattern, before which there are so many.
