@@ -4,7 +4,6 @@ pub mod Trees
 pub mod Applied
 pub mod Statements
 pub mod Lambdas
-pub mod PatternTrees
 pub mod Decide
 pub mod Sets
 pub mod Levels

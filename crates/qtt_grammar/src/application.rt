@@ -11,7 +11,9 @@ ghost use Rattle.qtt_grammar.specs.View.{Answers, inside, with_front, MayReadBel
 use crate::class::Class;
 use crate::level::Level;
 use crate::lexeme::unnamed;
-use crate::token::{Reading, Rest, begins, begins_atom, begins_name, first_place, opener, symbol, used_name, word};
+use crate::token::{
+    Reading, Rest, begins, begins_atom, begins_name, first_place, opener, symbol, used_name, word,
+};
 use qtt_base::{MemoryError, Span};
 use qtt_syntax::{Argument, Expr, Mark};
 use qtt_usage::mult::Mult;

@@ -10,7 +10,9 @@ ghost use Rattle.qtt_grammar.specs.View.{Answers, inside, MayReadBelow, ReadsBel
 
 use crate::class::Class;
 use crate::level::Level;
-use crate::token::{Reading, Rest, begins, begins_bind, bound_name, first_place, mark, opener, symbol};
+use crate::token::{
+    Reading, Rest, begins, begins_bind, bound_name, first_place, mark, opener, symbol,
+};
 use qtt_base::{MemoryError, Span};
 use qtt_syntax::{Expr, Local, Statement};
 use qtt_usage::mult::Mult;
