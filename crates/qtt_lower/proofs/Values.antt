@@ -152,12 +152,12 @@ found (v ∷ ρ) τ i h = elim (cases_lt i (length ρ)) [
 ]
 
 -- an element of one list or of the other
-pub in-first : (xs ys : List Value) (k : ℕ) → k < length xs → slice_get (xs ++ ys) k ≡ slice_get xs k
+pub in-first : {A : Type 0} (xs ys : List A) (k : ℕ) → k < length xs → slice_get (xs ++ ys) k ≡ slice_get xs k
 in-first [] ys k h = absurd (omega (arith, h))
 in-first (x ∷ xs) ys zero h = refl
 in-first (x ∷ xs) ys (suc k) h = in-first xs ys k (omega (arith, h))
 
-pub in-second : (xs ys : List Value) (k : ℕ) → length xs ≤ k → slice_get (xs ++ ys) k ≡ slice_get ys (k - length xs)
+pub in-second : {A : Type 0} (xs ys : List A) (k : ℕ) → length xs ≤ k → slice_get (xs ++ ys) k ≡ slice_get ys (k - length xs)
 in-second [] ys k h = ap (slice_get ys) (let e : k ≡ k - 0 = omega arith in e)
 in-second (x ∷ xs) ys zero h = absurd (omega (arith, h))
 in-second (x ∷ xs) ys (suc k) h = in-second xs ys k (omega (arith, h)) ∙ ap (slice_get ys) (let e : k - length xs ≡ suc k - suc (length xs) = omega arith in e)

@@ -1,14 +1,19 @@
--- The laws of lowering: code takes the steps of the term that it represents, tick for step.
-use Rattle.std.specs.Prelude.{◌≡◌, ℕ}
+-- The laws of lowering: code takes the steps of the term that it represents, tick for step; and a program is lowered as a whole.
+use Rattle.std.specs.Prelude.{◌≡◌, ℕ, List, [], ◌∷◌, Contains}
 use Rattle.qtt_base.specs.declared.place.GlobalId.{GlobalId}
+use Rattle.qtt_term.specs.Signature.{Env}
 use Rattle.qtt_erase.specs.Operator.{App, Def}
 use Rattle.qtt_erase.specs.Step.{Bodies, Outcome}
+use Rattle.qtt_erase.specs.Erasure.{erased_bodies}
 use Rattle.qtt_closure.specs.Flat as flat
 use Rattle.qtt_closure.specs.Flat.{Closure, FlatTerm, flat_step}
+use Rattle.qtt_closure.specs.StandsFor.{AreConversions}
 use Rattle.qtt_code.specs.Value.{Value}
 use Rattle.qtt_code.specs.Instruction.{Program}
 use Rattle.qtt_code.specs.Machine.{State, Did, instruction, Reaches, start, called}
 use Rattle.qtt_lower.specs.Lowerable.{IsLowered}
+use Rattle.qtt_lower.specs.Source.{IsSource}
+use Rattle.qtt_lower.specs.Programs.{Body, bodies, lean_bodies, flat_bodies, flat_program, bases, entry, program}
 use Rattle.qtt_lower.specs.Represents.{flat_value, Represents}
 
 -- what a state does where its term has this outcome: a value is given back without a tick, a step is one tick, to a state that represents the
@@ -28,3 +33,14 @@ CodeRunsInStep =
 pub record RunsBegin : Type 0 where
   pub definition : (e : GlobalId → ℕ) (d : GlobalId) → Represents e (Def d) (start (e d))
   pub call : (e : GlobalId → ℕ) (f a : Value) → Represents e (App (flat_value f) (flat_value a)) (called f a)
+
+abbrev pub AreSources : List Body → Type 0
+AreSources [] = Unit {0}
+AreSources (b ∷ bs) = IsSource b.term × AreSources bs
+
+-- the program of definitions with these erased bodies has the blocks of their conversions
+pub record ProgramsAreLowered : Type 0 where
+  pub conversions : (bs : List Body) → AreSources bs → AreConversions (flat_program bs) (lean_bodies bs) (flat_bodies bs)
+  pub blocks : (bs : List Body) → AreSources bs → IsLowered (entry (bases bs)) (flat_program bs) (flat_bodies bs) (program bs)
+  -- those of the definitions of an environment
+  pub erased : (E : Env) (ds : List GlobalId) (d : GlobalId) → Contains ds d → lean_bodies (bodies E ds) d ≡ erased_bodies E d

@@ -2,5 +2,6 @@ pub mod Lowering
 pub mod Programs
 pub mod Rows
 pub mod Lowerable
+pub mod Source
 pub mod Represents
 pub mod Laws
