@@ -115,13 +115,16 @@ mutual
       let t : Lean = Tree.node (Operator.function a) ts in
       let Δ : Slots = captures 0 t Γ in
       let c = captured-mentioned t Γ s in
-      all-append _ _
-      (all-append (own_function (Operator.function a) t Γ (flats (suc n) (suc n) 1 (lean.body_binders a) Δ ts)) _
+      let own : List Function = own_function (Operator.function a) t Γ (flats (suc n) (suc n) 1 (lean.body_binders a) Δ ts) in
+      let evaluated : List Function = evaluated_functions (suc n) 1 (lean.body_binders a) Δ ts in
+      all-append (own ++ evaluated) (waiting_functions (afters (suc n) (skip 1 ts)) 1 (lean.body_binders a) Δ ts)
+      (all-append own evaluated
       (body-lowerable a ts (places Δ) (suc n) (suc n) Δ f.0 (flats-lowerable ts (suc n) (suc n) 1 (lean.body_binders a) Δ f.1 p.1 c), tt)
       (evaluated-lowerable ts (suc n) 1 (lean.body_binders a) Δ f.1 p.1 c))
       (waiting-lowerable ts (afters (suc n) (skip 1 ts)) 1 (lean.body_binders a) Δ f.1 p.1 c)
   functions-lowerable (Tree.node F ts) n Γ f p s =
-      all-append _ _ (evaluated-lowerable ts n (waiting F) (lean.binders F) Γ f.1 p.1 s)
+      all-append (evaluated_functions n (waiting F) (lean.binders F) Γ ts) (waiting_functions (afters n (skip (waiting F) ts)) (waiting F) (lean.binders F) Γ ts)
+      (evaluated-lowerable ts n (waiting F) (lean.binders F) Γ f.1 p.1 s)
       (waiting-lowerable ts (afters n (skip (waiting F) ts)) (waiting F) (lean.binders F) Γ f.1 p.1 s)
 
   evaluated-lowerable : (ts : Leans) (n k : ℕ) (ns : List ℕ) (Γ : Slots) → AllFormed ts → ArePlain ts → AllScoped Γ ns ts →

@@ -64,13 +64,13 @@ has-holds P n (F ∷ Fs) h = (
 )
 
 -- ---- each function's block, and that its body is lowerable
+abbrev OnFunction : Option Function → Type 0
+OnFunction None = Unit {0}
+OnFunction (Some F) = Lowerable (F.captured + F.takes) F.body
+
 lowerable-at : (Fs : List Function) → AreLowerable Fs → (k : ℕ) (F : Function) → slice_get Fs k ≡ Some F → Lowerable (F.captured + F.takes) F.body
 lowerable-at [] h k F e = absurd (cc e)
 lowerable-at (G ∷ Fs) h zero F e = subst (λ o. OnFunction o) e h.0
-  where
-    abbrev OnFunction : Option Function → Type 0
-    OnFunction None = Unit {0}
-    OnFunction (Some F) = Lowerable (F.captured + F.takes) F.body
 lowerable-at (G ∷ Fs) h (suc k) F e = lowerable-at Fs h.1 k F e
 
 source-scoped : (t : Lean) → IsSource t → Scoped [] t
@@ -85,28 +85,25 @@ source-lowerable n t s = (
 module _ (e : GlobalId → ℕ) where
   blocks-of : (n : ℕ) (bs : List Body) → AreSources bs → (k : ℕ) (F : Function) → slice_get (functions_from n bs) k ≡ Some F → IsBlock e (program_from e n bs) k F
   blocks-of n [] s k F h = absurd (cc h)
-  blocks-of n (b ∷ bs) s k F h = elim (cases_lt k (length Fs)) [
+  blocks-of n (b ∷ bs) s k F h = elim (cases_lt k (length (flat_functions n b.term))) [
     inl p ↦
-        let f = sym (in-first Fs (functions_from (numbers_end n b.term) bs) k p) ∙ h in
+        let f = sym (in-first (flat_functions n b.term) (functions_from (numbers_end n b.term) bs) k p) ∙ h in
         (
           b.id,
-          in-first (lowered e n b) (program_from e (numbers_end n b.term) bs) k (subst (λ m. k < m) (sym (length-map Fs (block e b.id))) p)
-          ∙ slice_get-map (block e b.id) Fs k ∙ ap (option_map (block e b.id)) f,
-          lowerable-at Fs (source-lowerable n b.term s.0) k F f,
+          in-first (lowered e n b) (program_from e (numbers_end n b.term) bs) k (subst (λ m. k < m) (sym (length-map (flat_functions n b.term) (block e b.id))) p)
+          ∙ slice_get-map (block e b.id) (flat_functions n b.term) k ∙ ap (option_map (block e b.id)) f,
+          lowerable-at (flat_functions n b.term) (source-lowerable n b.term s.0) k F f,
         )
     | inr q ↦
-        let f = sym (in-second Fs (functions_from (numbers_end n b.term) bs) k q) ∙ h in
-        let r = blocks-of (numbers_end n b.term) bs s.1 (k - length Fs) F f in
+        let f = sym (in-second (flat_functions n b.term) (functions_from (numbers_end n b.term) bs) k q) ∙ h in
+        let r = blocks-of (numbers_end n b.term) bs s.1 (k - length (flat_functions n b.term)) F f in
         (
           r.0,
-          in-second (lowered e n b) (program_from e (numbers_end n b.term) bs) k (subst (λ m. m ≤ k) (sym (length-map Fs (block e b.id))) q)
-          ∙ ap (λ m. slice_get (program_from e (numbers_end n b.term) bs) (k - m)) (length-map Fs (block e b.id)) ∙ r.1,
+          in-second (lowered e n b) (program_from e (numbers_end n b.term) bs) k (subst (λ m. m ≤ k) (sym (length-map (flat_functions n b.term) (block e b.id))) q)
+          ∙ ap (λ m. slice_get (program_from e (numbers_end n b.term) bs) (k - m)) (length-map (flat_functions n b.term) (block e b.id)) ∙ r.1,
           r.2,
         )
   ]
-    where
-      abbrev Fs : List Function
-      Fs = flat_functions n b.term
 
   -- ---- definitions
   abbrev IsDefined : Program → Option FlatTerm → ℕ → Type 0
