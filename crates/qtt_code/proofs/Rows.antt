@@ -10,7 +10,7 @@ machine_rows_hold = record {
   identity_ends = (
     _,
     Reaches.ticks refl (Reaches.ticks refl (Reaches.goes refl (Reaches.goes refl (Reaches.goes refl (Reaches.ticks refl
-    (Reaches.goes refl (Reaches.goes refl (Reaches.ticks refl (Reaches.goes refl Reaches.here))))))))),
+        (Reaches.goes refl (Reaches.goes refl (Reaches.ticks refl (Reaches.goes refl Reaches.here))))))))),
     refl,
   );
   identity_is_spent = record {
@@ -23,7 +23,7 @@ machine_rows_hold = record {
   branch_ends = (
     _,
     Reaches.ticks refl (Reaches.goes refl (Reaches.goes refl (Reaches.goes refl (Reaches.ticks refl (Reaches.goes refl (Reaches.goes refl
-    (Reaches.goes refl (Reaches.ticks refl Reaches.here)))))))),
+        (Reaches.goes refl (Reaches.ticks refl Reaches.here)))))))),
     refl,
   );
   division_traps = (_, Reaches.ticks refl (Reaches.goes refl (Reaches.goes refl Reaches.here)), refl);

@@ -30,27 +30,27 @@ identity =
     plain 0 (Instr.closure 1 0 ∷ Instr.return ∷ [])
     ∷ plain 1 (Instr.local 0 ∷ Instr.return ∷ [])
     ∷ plain 0 (
-      Instr.enter Position.inner 0
-      ∷ int 3
-      ∷ Instr.call Position.inner
-      ∷ Instr.prim prim.ShowInt
-      ∷ Instr.action Action.put_line 1
-      ∷ Instr.return ∷ []) ∷ []
+    Instr.enter Position.inner 0
+    ∷ int 3
+    ∷ Instr.call Position.inner
+    ∷ Instr.prim prim.ShowInt
+    ∷ Instr.action Action.put_line 1
+    ∷ Instr.return ∷ []) ∷ []
 
 -- a Case that is no tail: its branch drops its field, and the number below stays
 abbrev pub branching : Program
 branching =
     plain 0 (
-      int 1
-      ∷ int 5
-      ∷ Instr.con 0 1
-      ∷ Instr.switch (4 ∷ 7 ∷ [])
-      ∷ Instr.local 0
-      ∷ Instr.leave 1
-      ∷ Instr.jump 8
-      ∷ int 0
-      ∷ Instr.prim prim.AddInt
-      ∷ Instr.return ∷ []) ∷ []
+    int 1
+    ∷ int 5
+    ∷ Instr.con 0 1
+    ∷ Instr.switch (4 ∷ 7 ∷ [])
+    ∷ Instr.local 0
+    ∷ Instr.leave 1
+    ∷ Instr.jump 8
+    ∷ int 0
+    ∷ Instr.prim prim.AddInt
+    ∷ Instr.return ∷ []) ∷ []
 
 abbrev pub dividing : Program
 dividing = plain 0 (int 1 ∷ int 0 ∷ Instr.prim prim.DivInt ∷ Instr.return ∷ []) ∷ []

@@ -10,3 +10,6 @@ pub mod lines;
 pub use block::{Block, Program};
 pub use instr::Instr;
 pub use lines::listing;
+
+#[cfg(test)]
+mod tests;

@@ -61,7 +61,9 @@ fn heading(
     let owner = owner_name(names, block.owner);
     let captured = block.captured;
     let takes = block.takes;
-    Ok(format!(in alloc; "block {number} {owner} captured {captured} takes {takes}\n")?.into_bytes())
+    Ok(format!(in alloc;
+        "block {number} {owner} captured {captured} takes {takes}\n"
+    )?.into_bytes())
 }
 
 fn instr_line(alloc: Global, instr: &Instr) -> Result<Vec<u8>, MemoryError>

@@ -24,6 +24,7 @@ use Rattle.qtt_lower.specs.Source.{IsSource}
 use Rattle.qtt_lower.specs.Programs.{Body, with_body, bodies, flat_functions, numbers_end, functions_from, flat_program, lean_bodies, flat_bodies_from, flat_bodies, base_id, block_of, bases_from, bases, entry, lowered, program_from, program}
 use Rattle.qtt_lower.specs.Laws.{AreSources, ProgramsAreLowered}
 use Rattle.qtt_lower.proofs.Values.{in-first, in-second}
+use Rattle.qtt_lower.proofs.Erased.{bodies-are-sources}
 use Rattle.qtt_lower.proofs.Converted.{flat-lowerable, AreLowerable, functions-lowerable}
 
 -- ---- numbers
@@ -194,5 +195,6 @@ programs-are-lowered = record {
     definitions = λ d u h. subst (λ o. IsDefined (entry (bases bs)) (program bs) o (entry (bases bs) d)) h
         (definitions-of (entry (bases bs)) (program bs) 0 bs s (λ k x g. ap (slice_get (program bs)) (let w : 0 + k ≡ k = omega arith in w) ∙ g) d);
   };
+  sources = λ E h ds. bodies-are-sources E h ds;
   erased = λ E ds d h. bodies-found E ds d h.0 h.1 h.2;
 }

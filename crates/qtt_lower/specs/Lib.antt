@@ -4,4 +4,5 @@ pub mod Rows
 pub mod Lowerable
 pub mod Source
 pub mod Represents
+pub mod Evaluation
 pub mod Laws
