@@ -92,7 +92,7 @@ module _ (e : GlobalId → ℕ) (P : flat.Program) (B : Bodies Abstraction) (C :
   none-made n = omega arith
 
   when-stopped : (n : ℕ) (t : Lean) (s : State) (x : Outcome Lean) → FollowsErased e P C t s x → AnswersFrom 0 n s (stopped n t x)
-  when-stopped n t s Outcome.value (v, r, h, w, i) = (0, none-made n, v, h, ends-here C 0 s r (Did.ends v) (Halt.done v) w i refl)
+  when-stopped n t s Outcome.value (v, r, h, w, i) = (0, none-made n, (v, h, ends-here C 0 s r (Did.ends v) (Halt.done v) w i refl))
   when-stopped n t s (Outcome.step u) (r, w, h) =
       let b = before-tick w refl in (0, none-made n, ends-here C 0 s b.before (Did.ticks b.after) Halt.spent b.way b.tick (refl, refl))
   when-stopped n t s (Outcome.trap k) (r, w, i) = (0, none-made n, ends-here C 0 s r (Did.traps k) (Halt.trapped k) w i refl)
@@ -101,7 +101,7 @@ module _ (e : GlobalId → ℕ) (P : flat.Program) (B : Bodies Abstraction) (C :
   when-continued : (bound n : ℕ) (t : Lean) (s : State) (x : Outcome Lean) → FollowsErased e P C t s x →
       ((u : Lean) (r : State) → Runs e P u r → AnswersFrom bound (suc n) r (evaluation (lean_step B) bound (suc n) u)) →
       AnswersFrom (suc bound) n s (continued n t x (evaluation (lean_step B) bound (suc n)))
-  when-continued bound n t s Outcome.value (v, r, h, w, i) next = (0, none-made n, v, h, ends-here C (suc bound) s r (Did.ends v) (Halt.done v) w i refl)
+  when-continued bound n t s Outcome.value (v, r, h, w, i) next = (0, none-made n, (v, h, ends-here C (suc bound) s r (Did.ends v) (Halt.done v) w i refl))
   when-continued bound n t s (Outcome.step u) (r, w, h) next =
       let x : Evaluation = evaluation (lean_step B) bound (suc n) u in
       let a = next u r h in
