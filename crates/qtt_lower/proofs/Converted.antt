@@ -1,19 +1,17 @@
 -- What closure conversion gives is lowered: its terms are lowerable.
-use Rattle.std.proofs.Common.{◌≡◌, ℕ, zero, suc, ◌+◌, ◌<◌, List, [], ◌∷◌, ◌++◌, length, Bool, true, false, cond, refl, sym, ◌∙◌, ap, subst, arith}
+use Rattle.std.proofs.Common.{◌≡◌, ℕ, zero, suc, ◌+◌, ◌<◌, List, [], ◌∷◌, ◌++◌, Bool, true, false, cond, refl, ◌∙◌, ap, subst, arith}
 use Rattle.std.proofs.lemmas.Bool.{eq-eqb}
 use Rattle.qtt_term.specs.Term.{first, rest}
-use Rattle.qtt_term.specs.Substitution.{shift}
-use Rattle.qtt_erase.specs.Binding.{Tree, ∅, ◌◂◌, ◌◂◂◌, size}
+use Rattle.qtt_erase.specs.Binding.{Tree, ∅, ◌◂◌}
 use Rattle.qtt_erase.specs.Operator.{Operator}
 use Rattle.qtt_erase.specs.Lean.{Abstraction, Lean, Leans}
 use Rattle.qtt_erase.specs.Lean as lean
 use Rattle.qtt_erase.specs.Erasure.{Slot, Slots, slot_at, place_at, places}
 use Rattle.qtt_erase.specs.ErasedUse.{IsFilled}
-use Rattle.qtt_closure.specs.Flat.{Closure, FlatTerm, FlatTerms, Function}
+use Rattle.qtt_closure.specs.Flat.{FlatTerms, Function}
 use Rattle.qtt_closure.specs.Conversion.{mentions, after, afters, skip, waiting, arity, bound, captures, captured, other, flat, flats, first_or_type, own_function, functions, evaluated_functions, waiting_functions}
 use Rattle.qtt_closure.specs.StandsFor.{IsOther, OneBody, Formed, AllFormed}
-use Rattle.qtt_closure.proofs.Starting.{Mentioned, Scoped, AllScoped, scoped-first, scoped-rest, captured-mentioned, place-below}
-use Rattle.qtt_lower.specs.Lowering.{branches}
+use Rattle.qtt_closure.proofs.Starting.{Scoped, AllScoped, scoped-first, scoped-rest, captured-mentioned, place-below}
 use Rattle.qtt_lower.specs.Lowerable.{AreVariables, IsNone, Lowerable, AllLowerable}
 use Rattle.qtt_lower.specs.Source.{IsPlainOperator, IsPlain, ArePlain}
 
@@ -70,7 +68,7 @@ mutual
   flat-lowerable (Tree.node (Operator.function a) ts) n Γ f p s =
       let t : Lean = Tree.node (Operator.function a) ts in
       let c = captured-lowerable (places Γ) 0 t Γ (place_at Γ) ∅ (λ i e u. place-below Γ i u)
-          (λ i e. s i (ap (λ n. mentions n t) (let z : i ≡ i + 0 = omega arith in z) ∙ e)) (tt, tt) in
+      (λ i e. s i (ap (λ n. mentions n t) (let z : i ≡ i + 0 = omega arith in z) ∙ e)) (tt, tt) in
       ((refl, c.0), c.1)
   flat-lowerable (Tree.node F ts) n Γ f p s =
       other-lowerable F tt (places Γ) ts (flats n (afters n (skip (waiting F) ts)) (waiting F) (lean.binders F) Γ ts) p.0

@@ -1,15 +1,15 @@
 -- What erasure gives is lowered.
-use Rattle.std.proofs.Common.{◌≡◌, ℕ, zero, suc, ◌+◌, List, [], ◌∷◌, Option, Some, None, refl, sym, ◌∙◌, ap, subst, arith}
+use Rattle.std.proofs.Common.{◌≡◌, ℕ, ◌+◌, List, [], ◌∷◌, Option, Some, None, refl, sym, ◌∙◌, ap, subst, arith}
 use Rattle.qtt_base.specs.declared.place.GlobalId.{GlobalId}
 use Rattle.qtt_usage.specs.declared.mult.Mult.{Mult}
 use Rattle.qtt_usage.specs.Mult.{𝟘, 𝟙, ω}
-use Rattle.qtt_term.specs.Term.{Named, Form, Term, Terms, var, node, ε, ◌▸◌, binders, first, rest}
+use Rattle.qtt_term.specs.Term.{Named, Form, Term, Terms, var, node, ε, ◌▸◌, binders, rest}
 use Rattle.qtt_term.specs.Signature.{Env, definition_at}
 use Rattle.qtt_term.specs.Judgement.{Part, Usable}
-use Rattle.qtt_erase.specs.Binding.{Tree, ∅, ◌◂◌, Below, AllBelow}
+use Rattle.qtt_erase.specs.Binding.{Below, AllBelow}
 use Rattle.qtt_erase.specs.Lean as lean
 use Rattle.qtt_erase.specs.Lean.{Lean}
-use Rattle.qtt_erase.specs.Erasure.{Slot, Slots, counted, places, extend, slot_at, place_at, variable, Fate, fates, operator, erase, erases, erased_body, erased_bodies}
+use Rattle.qtt_erase.specs.Erasure.{Slot, Slots, places, extend, slot_at, place_at, variable, Fate, fates, operator, erase, erases, erased_body, erased_bodies}
 use Rattle.qtt_erase.specs.ErasedUse.{IsFilled}
 use Rattle.qtt_erase.proofs.Places.{Fitting, fates-fit}
 use Rattle.qtt_closure.specs.StandsFor.{OneBody, Formed, AllFormed}

@@ -1,5 +1,5 @@
 -- The machine over a lowered program runs beside the evaluation of erased terms.
-use Rattle.std.proofs.Common.{◌≡◌, ℕ, zero, suc, ◌+◌, ◌≤◌, List, refl, sym, ◌∙◌, ap, subst, arith}
+use Rattle.std.proofs.Common.{◌≡◌, ℕ, zero, suc, ◌+◌, refl, sym, ap, subst, arith}
 use Rattle.qtt_base.specs.declared.place.GlobalId.{GlobalId}
 use Rattle.qtt_erase.specs.Operator.{App, Def}
 use Rattle.qtt_erase.specs.Step.{Bodies, Outcome}
@@ -8,14 +8,13 @@ use Rattle.qtt_closure.specs.Flat as flat
 use Rattle.qtt_closure.specs.Flat.{Closure, FlatTerm, flat_step}
 use Rattle.qtt_closure.specs.StandsFor.{StandsFor, AllStandFor, AreConversions, Agrees}
 use Rattle.qtt_closure.proofs.Running as closure
-use Rattle.qtt_code.specs.Value.{Value}
 use Rattle.qtt_code.specs.Instruction.{Program}
-use Rattle.qtt_code.specs.Machine.{State, Did, Halt, instruction, Reaches, Stops, Advances}
+use Rattle.qtt_code.specs.Machine.{State, Did, Halt, instruction, Reaches, Stops}
 use Rattle.qtt_lower.specs.Lowerable.{IsLowered}
-use Rattle.qtt_lower.specs.Represents.{flat_value, Represents}
-use Rattle.qtt_lower.specs.Programs.{Body, lean_bodies, flat_bodies, flat_program, bases, entry, program}
+use Rattle.qtt_lower.specs.Represents.{flat_value}
+use Rattle.qtt_lower.specs.Programs.{lean_bodies, flat_bodies, flat_program, bases, entry, program}
 use Rattle.qtt_lower.specs.Evaluation.{Ending, Evaluation, stopped, continued, evaluation, Runs, FollowsErased, HaltsAfter, Answers}
-use Rattle.qtt_lower.specs.Laws.{Follows, AreSources, ProgramRuns, ProgramsRun}
+use Rattle.qtt_lower.specs.Laws.{Follows, ProgramsRun}
 use Rattle.qtt_lower.proofs.InStep.{in_step, begins}
 use Rattle.qtt_lower.proofs.Whole.{programs-are-lowered}
 
@@ -125,7 +124,7 @@ pub programs-run : ProgramsRun
 programs-run bs s =
     let e : GlobalId → ℕ = entry (bases bs) in
     let follows : (t : Lean) (s : State) → Runs e (flat_program bs) t s → FollowsErased e (flat_program bs) (program bs) t s (lean_step (lean_bodies bs) t) =
-        follows-erased e (flat_program bs) (lean_bodies bs) (flat_bodies bs) (program bs) (programs-are-lowered.conversions bs s) (programs-are-lowered.blocks bs s) in
+    follows-erased e (flat_program bs) (lean_bodies bs) (flat_bodies bs) (program bs) (programs-are-lowered.conversions bs s) (programs-are-lowered.blocks bs s) in
     record {
       definition = λ d. record { flat = Def d; stands = StandsFor.operator tt AllStandFor.none; represents = begins.definition e d };
       call = λ t u f a h g. record {

@@ -1,5 +1,5 @@
 -- A program as a whole is lowered.
-use Rattle.std.proofs.Common.{◌≡◌, ℕ, zero, suc, ◌+◌, ◌-◌, ◌<◌, ◌≤◌, List, [], ◌∷◌, ◌++◌, length, map, get_or, Contains, ◌⊎◌, inl, inr, Option, Some, None, option_map, Bool, true, false, cond, refl, sym, ◌∙◌, ap, subst, arith}
+use Rattle.std.proofs.Common.{◌≡◌, ℕ, zero, suc, ◌+◌, ◌-◌, ◌<◌, ◌≤◌, List, [], ◌∷◌, ◌++◌, length, get_or, ◌⊎◌, inl, inr, Option, Some, None, option_map, Bool, true, false, cond, refl, sym, ◌∙◌, ap, subst, arith}
 use Rattle.std.specs.List.{slice_get}
 use Rattle.std.proofs.lemmas.Bool.{cases_lt}
 use Rattle.std.proofs.lemmas.List.{length-map}
@@ -15,13 +15,13 @@ use Rattle.qtt_closure.specs.Flat as flat
 use Rattle.qtt_closure.specs.Flat.{FlatTerm, Function}
 use Rattle.qtt_closure.specs.Conversion.{functions}
 use Rattle.qtt_closure.specs.Conversion as conversion
-use Rattle.qtt_closure.specs.StandsFor.{Holds, IsHeld, IsConversion}
+use Rattle.qtt_closure.specs.StandsFor.{Holds, IsConversion}
 use Rattle.qtt_closure.proofs.Starting.{advance, number-after, Scoped, mentioned-below}
-use Rattle.qtt_code.specs.Instruction.{Block, Program}
+use Rattle.qtt_code.specs.Instruction.{Program}
 use Rattle.qtt_lower.specs.Lowering.{block}
-use Rattle.qtt_lower.specs.Lowerable.{Lowerable, IsBlock, IsLowered}
+use Rattle.qtt_lower.specs.Lowerable.{Lowerable, IsBlock}
 use Rattle.qtt_lower.specs.Source.{IsSource}
-use Rattle.qtt_lower.specs.Programs.{Body, with_body, bodies, flat_functions, numbers_end, functions_from, flat_program, lean_bodies, flat_bodies_from, flat_bodies, base_id, block_of, bases_from, bases, entry, lowered, program_from, program}
+use Rattle.qtt_lower.specs.Programs.{Body, with_body, bodies, flat_functions, numbers_end, functions_from, flat_program, lean_bodies, flat_bodies_from, base_id, block_of, bases_from, bases, entry, lowered, program_from, program}
 use Rattle.qtt_lower.specs.Laws.{AreSources, ProgramsAreLowered}
 use Rattle.qtt_lower.proofs.Values.{in-first, in-second}
 use Rattle.qtt_lower.proofs.Erased.{bodies-are-sources}
@@ -87,21 +87,19 @@ module _ (e : GlobalId → ℕ) where
   blocks-of : (n : ℕ) (bs : List Body) → AreSources bs → (k : ℕ) (F : Function) → slice_get (functions_from n bs) k ≡ Some F → IsBlock e (program_from e n bs) k F
   blocks-of n [] s k F h = absurd (cc h)
   blocks-of n (b ∷ bs) s k F h = elim (cases_lt k (length (flat_functions n b.term))) [
-    inl p ↦
-        let f = sym (in-first (flat_functions n b.term) (functions_from (numbers_end n b.term) bs) k p) ∙ h in
-        (
+    | inl p ↦
+        let f = sym (in-first (flat_functions n b.term) (functions_from (numbers_end n b.term) bs) k p) ∙ h in (
           b.id,
           in-first (lowered e n b) (program_from e (numbers_end n b.term) bs) k (subst (λ m. k < m) (sym (length-map (flat_functions n b.term) (block e b.id))) p)
-          ∙ slice_get-map (block e b.id) (flat_functions n b.term) k ∙ ap (option_map (block e b.id)) f,
+              ∙ slice_get-map (block e b.id) (flat_functions n b.term) k ∙ ap (option_map (block e b.id)) f,
           lowerable-at (flat_functions n b.term) (source-lowerable n b.term s.0) k F f,
         )
     | inr q ↦
         let f = sym (in-second (flat_functions n b.term) (functions_from (numbers_end n b.term) bs) k q) ∙ h in
-        let r = blocks-of (numbers_end n b.term) bs s.1 (k - length (flat_functions n b.term)) F f in
-        (
+        let r = blocks-of (numbers_end n b.term) bs s.1 (k - length (flat_functions n b.term)) F f in (
           r.0,
           in-second (lowered e n b) (program_from e (numbers_end n b.term) bs) k (subst (λ m. m ≤ k) (sym (length-map (flat_functions n b.term) (block e b.id))) q)
-          ∙ ap (λ m. slice_get (program_from e (numbers_end n b.term) bs) (k - m)) (length-map (flat_functions n b.term) (block e b.id)) ∙ r.1,
+              ∙ ap (λ m. slice_get (program_from e (numbers_end n b.term) bs) (k - m)) (length-map (flat_functions n b.term) (block e b.id)) ∙ r.1,
           r.2,
         )
   ]

@@ -1,5 +1,5 @@
 -- Evaluation of erased terms within a bound of steps, and what the machine answers beside it.
-use Rattle.std.specs.Prelude.{◌≡◌, ℕ, zero, suc, ◌+◌}
+use Rattle.std.specs.Prelude.{◌≡◌, ℕ, zero, suc}
 use Rattle.qtt_base.specs.declared.place.GlobalId.{GlobalId}
 use Rattle.qtt_term.specs.FullStep.{Cause}
 use Rattle.qtt_erase.specs.Step.{Outcome}
