@@ -1,0 +1,5 @@
+//! Lowering of flat functions to blocks of instructions.
+#![tactic(auto)]
+
+pub mod examples;
+pub mod laws;
