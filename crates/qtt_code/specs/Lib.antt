@@ -1,0 +1,5 @@
+pub mod Instruction
+pub mod Value
+pub mod Machine
+pub mod Listing
+pub mod View
