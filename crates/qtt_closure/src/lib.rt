@@ -8,7 +8,7 @@ pub mod flat;
 pub mod laws;
 mod scope;
 
-pub use converting::convert;
+pub use converting::{convert, convert_from};
 pub use flat::{Flat, FlatBranch, FlatTerm, Function};
 
 #[cfg(test)]
