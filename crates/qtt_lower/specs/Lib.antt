@@ -5,4 +5,5 @@ pub mod Lowerable
 pub mod Represents
 pub mod View
 pub mod Lowered
+pub mod Sizes
 pub mod Laws

@@ -2,9 +2,12 @@
 #![tactic(auto)]
 
 pub mod bases;
+pub mod definition;
 pub mod examples;
+pub mod laws;
 mod lowering;
 mod position;
 mod width;
 
 pub use bases::Bases;
+pub use definition::{Size, lower_one, size_of};

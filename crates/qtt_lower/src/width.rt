@@ -11,7 +11,7 @@ use qtt_base::MemoryError;
 use qtt_closure::{FlatBranch, FlatTerm};
 use std::alloc::Global;
 
-fn sum(a: usize, b: usize) -> Result<usize, MemoryError>
+pub fn sum(a: usize, b: usize) -> Result<usize, MemoryError>
     ensures { IfOk result (λ n. n ≡ a + b) }
 {
     a.checked_add(b).ok_or(MemoryError)
