@@ -61,7 +61,7 @@ both-after ts n k ns Γ h g =
     ∙ (let w = waited-all ts (afters n (skip k ts)) k in let p = afters-from (skip k ts) n in let q = afters-from ts n in omega (arith, w, p, q))
 
 mutual
-  number-after : (t : Lean) (n : ℕ) (Γ : Slots) → advance n (functions n Γ t) ≡ after n t
+  pub number-after : (t : Lean) (n : ℕ) (Γ : Slots) → advance n (functions n Γ t) ≡ after n t
   number-after (Tree.var i) n Γ = refl
   number-after (Tree.node (Operator.function a) ts) n Γ =
       let Δ : Slots = captures 0 (Tree.node (Operator.function a) ts) Γ in

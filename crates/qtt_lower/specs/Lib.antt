@@ -6,4 +6,5 @@ pub mod Represents
 pub mod View
 pub mod Lowered
 pub mod Sizes
+pub mod Compiled
 pub mod Laws

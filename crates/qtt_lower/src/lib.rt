@@ -7,7 +7,9 @@ pub mod examples;
 pub mod laws;
 mod lowering;
 mod position;
+pub mod program;
 mod width;
 
 pub use bases::Bases;
 pub use definition::{Size, lower_one, size_of};
+pub use program::LowerError;
