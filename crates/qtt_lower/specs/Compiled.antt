@@ -52,6 +52,9 @@ firsts_from n [] = []
 firsts_from n (s ∷ ss) = cond (eqb s.1.blocks 0) (firsts_from n ss) ((s.0, n) ∷ firsts_from (n + s.1.blocks) ss)
 
 -- ---- the blocks of definitions, one after another
+abbrev pub joined : List (List Block) → List Block
+joined [] = []
+joined (b ∷ bs) = b ++ joined bs
+
 abbrev pub blocks_in_turn : Env → List Base → List GlobalId → List Block
-blocks_in_turn E bs [] = []
-blocks_in_turn E bs (d ∷ ds) = blocks_of bs d (erased_bodies E d) ++ blocks_in_turn E bs ds
+blocks_in_turn E bs ds = joined (map (λ d. blocks_of bs d (erased_bodies E d)) ds)

@@ -6,5 +6,7 @@ pub mod Represents
 pub mod View
 pub mod Lowered
 pub mod Sizes
+pub mod Answered
 pub mod Compiled
+pub mod Whole
 pub mod Laws

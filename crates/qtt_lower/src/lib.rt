@@ -5,6 +5,7 @@ pub mod bases;
 pub mod definition;
 pub mod examples;
 pub mod laws;
+mod grouped;
 mod lowering;
 mod position;
 pub mod program;
@@ -12,4 +13,4 @@ mod width;
 
 pub use bases::Bases;
 pub use definition::{Size, lower_one, size_of};
-pub use program::LowerError;
+pub use program::{Compiled, LowerError, lower_all};
