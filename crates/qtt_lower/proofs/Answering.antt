@@ -1,5 +1,5 @@
 -- Answers for the elements of a list.
-use Rattle.std.proofs.Common.{◌≡◌, ℕ, zero, suc, ◌<◌, List, [], ◌∷◌, ◌++◌, length, map, Ok, refl, sym, ◌∙◌, ap, subst, arith}
+use Rattle.std.proofs.Common.{◌≡◌, ℕ, zero, suc, ◌<◌, List, [], ◌∷◌, ◌++◌, length, map, Ok, Err, IfOk, refl, sym, ◌∙◌, ap, subst, arith}
 use mathlib.Core.Path.{ap₂}
 use Rattle.std.specs.declared.result.Result.{Result}
 use Rattle.std.specs.Fn.{FnReturns}
@@ -40,3 +40,8 @@ module _ {F J X E : Type 0} (g : Shared F (J × Unit {0}) (Result X E)) (f : F) 
 pub no_length : {A : Type 0} (xs : List A) → length xs ≡ 0 → xs ≡ []
 no_length [] e = refl
 no_length (x ∷ xs) e = absurd (omega arith)
+
+-- what a value has, a fact that follows has it too
+pub if_ok : {A E : Type 0} {P Q : A → Type 0} (r : Result A E) → IfOk r P → ((a : A) → P a → Q a) → IfOk r Q
+if_ok (Ok a) h f = f a h
+if_ok (Err e) h f = tt

@@ -134,7 +134,7 @@ fn lower(
             give(code, position, variable(captured, level))
         }
         FlatTerm::Closure(number, values) => {
-            lower_all(alloc, bases, captured, depth, values, code)?;
+            lower_operands(alloc, bases, captured, depth, values, code)?;
             give(code, position, Instr::Closure(*number, count(values)?))
         }
         FlatTerm::App(f, a) => {
@@ -163,7 +163,7 @@ fn lower(
             Ok(())
         }
         FlatTerm::Con(tag, fields) => {
-            lower_all(alloc, bases, captured, depth, fields, code)?;
+            lower_operands(alloc, bases, captured, depth, fields, code)?;
             give(code, position, Instr::Con(*tag, count(fields)?))
         }
         FlatTerm::Case(scrutinee, branches) => {
@@ -172,11 +172,11 @@ fn lower(
         }
         FlatTerm::Lit(lit) => give(code, position, literal(lit)?),
         FlatTerm::Prim(prim, args) => {
-            lower_all(alloc, bases, captured, depth, args, code)?;
+            lower_operands(alloc, bases, captured, depth, args, code)?;
             give(code, position, Instr::Prim(*prim))
         }
         FlatTerm::Act(kind, args) => {
-            lower_all(alloc, bases, captured, depth, args, code)?;
+            lower_operands(alloc, bases, captured, depth, args, code)?;
             give(code, position, Instr::Action(*kind, count(args)?))
         }
         FlatTerm::Ty => give(code, position, Instr::Type),
@@ -190,7 +190,7 @@ fn lower(
 /// Puts the codes of terms, one behind the other.
 #[cycle(lower)]
 #[tactic(auto, using(crate::proofs::Lists::codes_of_forms))]
-fn lower_all(
+fn lower_operands(
     alloc: Global,
     bases: &Bases,
     captured: u32,

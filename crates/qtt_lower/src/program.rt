@@ -76,7 +76,7 @@ impl From<MemoryError> for LowerError {
 
 /// The ids of all definitions, in ascending order.
 fn definition_ids_of(alloc: Global, env: &Globals) -> Result<Vec<GlobalId>, MemoryError>
-    ensures differ { IsTrue (ids_differ (definition_ids env.now)) }
+    ensures differ { OnOk result (IsTrue (ids_differ (definition_ids env.now))) }
     ensures ids { IfOk result (λ v. v.items ≡ definition_ids env.now) }
 {
     let definitions = env.definitions();

@@ -6,8 +6,8 @@ use Rattle.qtt_lower.specs.Programs.{entry}
 use Rattle.qtt_lower.specs.View.{bases, position}
 use Rattle.qtt_lower.proofs.lowering.+lower.Given as goal
 
-abbrev pub invariant-lower_all-loop-source : goal.invariant-lower_all-loop-source
-invariant-lower_all-loop-source l = record {
+abbrev pub invariant-lower_operands-loop-source : goal.invariant-lower_operands-loop-source
+invariant-lower_operands-loop-source l = record {
   code : instrs l.code.items ++ all_code (entry (bases l.bases)) l.captured l.depth (vec_len l.code) (flat_terms (drop l.source-index l.sources))
       ≡ instrs l.initial.code.items ++ all_code (entry (bases l.bases)) l.captured l.depth (vec_len l.initial.code) (flat_terms l.sources);
   count : vec_len l.code + all_width (flat_terms (drop l.source-index l.sources)) ≡ vec_len l.initial.code + all_width (flat_terms l.sources);
