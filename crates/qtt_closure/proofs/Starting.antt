@@ -122,17 +122,17 @@ pub shift-suc : (n i : ℕ) → shift (suc n) i ≡ shift n (suc i)
 shift-suc zero i = refl
 shift-suc (suc n) i = ap suc (shift-suc n i)
 
-abbrev Mentioned : Lean → ℕ → Type 0
+abbrev pub Mentioned : Lean → ℕ → Type 0
 Mentioned t i = mentions i t ≡ true
 
-abbrev AnyMentioned : List ℕ → Leans → ℕ → Type 0
+abbrev pub AnyMentioned : List ℕ → Leans → ℕ → Type 0
 AnyMentioned ns ts i = any_mentions ns i ts ≡ true
 
 -- what is mentioned of a frame is in it
-abbrev Scoped : Slots → Lean → Type 0
+abbrev pub Scoped : Slots → Lean → Type 0
 Scoped Γ t = (i : ℕ) → Mentioned t i → IsFilled (slot_at Γ i)
 
-abbrev AllScoped : Slots → List ℕ → Leans → Type 0
+abbrev pub AllScoped : Slots → List ℕ → Leans → Type 0
 AllScoped Γ ns ts = (i : ℕ) → AnyMentioned ns ts i → IsFilled (slot_at Γ i)
 
 scoped-bound : (k : ℕ) (Γ : Slots) (t : Lean) → ((i : ℕ) → Mentioned t (shift k i) → IsFilled (slot_at Γ i)) → Scoped (bound k Γ) t
@@ -143,10 +143,10 @@ scoped-bound (suc k) Γ t h = scoped-bound k (Slot.filled ∷ Γ) t go
     go zero e = tt
     go (suc i) e = h i (ap (λ j. mentions j t) (shift-suc k i) ∙ e)
 
-scoped-first : (Γ : Slots) (ns : List ℕ) (t : Lean) (ts : Leans) → AllScoped Γ ns (t ◂ ts) → Scoped (bound (first ns) Γ) t
+pub scoped-first : (Γ : Slots) (ns : List ℕ) (t : Lean) (ts : Leans) → AllScoped Γ ns (t ◂ ts) → Scoped (bound (first ns) Γ) t
 scoped-first Γ ns t ts h = scoped-bound (first ns) Γ t (λ i e. h i (or-left (mentions (shift (first ns) i) t) (any_mentions (rest ns) i ts) e))
 
-scoped-rest : (Γ : Slots) (ns : List ℕ) (t : Lean) (ts : Leans) → AllScoped Γ ns (t ◂ ts) → AllScoped Γ (rest ns) ts
+pub scoped-rest : (Γ : Slots) (ns : List ℕ) (t : Lean) (ts : Leans) → AllScoped Γ ns (t ◂ ts) → AllScoped Γ (rest ns) ts
 scoped-rest Γ ns t ts h i e = h i (or-right (mentions (shift (first ns) i) t) (any_mentions (rest ns) i ts) e)
 
 captured-slot : (j : ℕ) (t : Lean) (Γ : Slots) (i : ℕ) → Mentioned t (shift i j) → IsFilled (slot_at Γ i) → IsFilled (slot_at (captures j t Γ) i)
@@ -159,7 +159,7 @@ shift-none zero = refl
 shift-none (suc i) = ap suc (shift-none i)
 
 -- what is mentioned and in the surrounding frame is captured
-captured-mentioned : (t : Lean) (Γ : Slots) → Scoped Γ t → Scoped (captures 0 t Γ) t
+pub captured-mentioned : (t : Lean) (Γ : Slots) → Scoped Γ t → Scoped (captures 0 t Γ) t
 captured-mentioned t Γ h i e = captured-slot 0 t Γ i (ap (λ j. mentions j t) (shift-none i) ∙ e) (h i e)
 
 -- ---- substitutions that agree at what is mentioned
@@ -209,7 +209,7 @@ mutual
 
 -- what is mentioned of a term with all variables below n is below n
 mutual
-  mentioned-below : (t : Lean) (n i : ℕ) → Below lean.binders n t → Mentioned t i → i < n
+  pub mentioned-below : (t : Lean) (n i : ℕ) → Below lean.binders n t → Mentioned t i → i < n
   mentioned-below (Tree.var j) n i b e = let p = eqb-true i j e in subst (λ k. k < n) (sym p) b
   mentioned-below (Tree.node F ts) n i b e = any-below ts (lean.binders F) n i b e
 
@@ -230,7 +230,7 @@ place-bound (suc k) Γ = place-bound k (Slot.filled ∷ Γ) ∙ ap (lifts_ren k)
     go zero = refl
     go (suc i) = refl
 
-place-below : (Δ : Slots) (i : ℕ) → IsFilled (slot_at Δ i) → place_at Δ i < places Δ
+pub place-below : (Δ : Slots) (i : ℕ) → IsFilled (slot_at Δ i) → place_at Δ i < places Δ
 place-below [] i u = absurd u
 place-below (Slot.gone ∷ Δ) zero u = absurd u
 place-below (Slot.blank ∷ Δ) zero u = absurd u

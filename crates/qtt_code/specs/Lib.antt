@@ -3,3 +3,5 @@ pub mod Value
 pub mod Machine
 pub mod Listing
 pub mod View
+pub mod Laws
+pub mod Rows

@@ -1,7 +1,6 @@
 -- The listing of a program. For each block the line `block B OWNER captured C takes T`, then its instructions, each with two blanks before
 -- it; an owner that the names don't have is `_`.
-use Rattle.std.specs.Prelude.{ℕ, suc, List, [], ◌∷◌, ◌++◌, map, cond, eqb, Option, Some, None, codes, decimal}
-use Rattle.std.specs.List.{join_with_byte, concat}
+use Rattle.std.specs.Prelude.{ℕ, suc, List, [], ◌∷◌, ◌++◌, flat_map, cond, eqb, Option, Some, None, codes, decimal}
 use Rattle.std.specs.Fmt.{signed_decimal}
 use Rattle.qtt_base.specs.declared.place.GlobalId.{GlobalId}
 use Rattle.qtt_prims.specs.declared.prim.ActKind.{ActKind}
@@ -24,7 +23,7 @@ escaped b =
     (b ∷ []))))
 
 abbrev pub quoted : List ℕ → List ℕ
-quoted s = 34 ∷ concat (map escaped s) ++ 34 ∷ []
+quoted s = 34 ∷ flat_map escaped s ++ 34 ∷ []
 
 -- ---- names
 abbrev pub kind : Action → ActKind
@@ -48,47 +47,50 @@ abbrev pub owner_name : List DefinitionEntry → GlobalId → List ℕ
 owner_name names d = shown_name (with_id definition_id d names)
 
 -- ---- instructions
--- the word of a call, a force or an enter, in tail position with `tail-` before it
-abbrev pub at : Position → List ℕ → List ℕ
-at Position.inner word = word
-at Position.tail word = codes "tail-" ++ word
+-- in tail position a call, a force or an enter has `tail-` before its word
+abbrev pub tailed : Position → List ℕ → List ℕ
+tailed Position.inner text = text
+tailed Position.tail text = codes "tail-" ++ text
 
-abbrev pub literal_words : Lit → List (List ℕ)
-literal_words (lit.Int n) = codes "int" ∷ signed_decimal n ∷ []
-literal_words (lit.Text s) = codes "text" ∷ quoted s ∷ []
+abbrev pub literal_text : Lit → List ℕ
+literal_text (lit.Int n) = codes "int " ++ signed_decimal n
+literal_text (lit.Text s) = codes "text " ++ quoted s
 
-abbrev pub instr_words : Instr → List (List ℕ)
-instr_words (Instr.local k) = codes "local" ∷ decimal k ∷ []
-instr_words (Instr.captured k) = codes "captured" ∷ decimal k ∷ []
-instr_words (Instr.literal l) = literal_words l
-instr_words Instr.type = codes "type" ∷ []
-instr_words (Instr.closure b k) = codes "closure" ∷ decimal b ∷ decimal k ∷ []
-instr_words (Instr.con c k) = codes "con" ∷ decimal c ∷ decimal k ∷ []
-instr_words (Instr.action a k) = codes "action" ∷ action_name (kind a) ∷ decimal k ∷ []
-instr_words (Instr.call o) = at o (codes "call") ∷ []
-instr_words (Instr.force o) = at o (codes "force") ∷ []
-instr_words (Instr.enter o b) = at o (codes "enter") ∷ decimal b ∷ []
-instr_words (Instr.prim p) = codes "prim" ∷ prim_name p ∷ []
-instr_words (Instr.switch qs) = codes "switch" ∷ map decimal qs
-instr_words (Instr.leave k) = codes "leave" ∷ decimal k ∷ []
-instr_words (Instr.jump q) = codes "jump" ∷ decimal q ∷ []
-instr_words Instr.return = codes "return" ∷ []
-instr_words Instr.trap = codes "trap" ∷ []
+-- a number behind a blank
+abbrev pub next_number : ℕ → List ℕ
+next_number n = 32 ∷ decimal n
 
--- ---- lines
--- words with a blank between two, and the byte 10
-abbrev pub line : List (List ℕ) → List ℕ
-line words = join_with_byte 32 words ++ 10 ∷ []
+abbrev pub instr_text : Instr → List ℕ
+instr_text (Instr.local k) = codes "local" ++ next_number k
+instr_text (Instr.captured k) = codes "captured" ++ next_number k
+instr_text (Instr.literal l) = literal_text l
+instr_text Instr.type = codes "type"
+instr_text (Instr.closure b k) = codes "closure" ++ next_number b ++ next_number k
+instr_text (Instr.con c k) = codes "con" ++ next_number c ++ next_number k
+instr_text (Instr.action a k) = codes "action " ++ action_name (kind a) ++ next_number k
+instr_text (Instr.call o) = tailed o (codes "call")
+instr_text (Instr.force o) = tailed o (codes "force")
+instr_text (Instr.enter o b) = tailed o (codes "enter") ++ next_number b
+instr_text (Instr.prim p) = codes "prim " ++ prim_name p
+instr_text (Instr.switch qs) = codes "switch" ++ flat_map next_number qs
+instr_text (Instr.leave k) = codes "leave" ++ next_number k
+instr_text (Instr.jump q) = codes "jump" ++ next_number q
+instr_text Instr.return = codes "return"
+instr_text Instr.trap = codes "trap"
+
+-- ---- lines, each ended by the byte 10
+abbrev pub line : List ℕ → List ℕ
+line text = text ++ 10 ∷ []
 
 abbrev pub instr_line : Instr → List ℕ
-instr_line i = 32 ∷ 32 ∷ line (instr_words i)
+instr_line i = line (codes "  " ++ instr_text i)
 
-abbrev pub block_words : List DefinitionEntry → ℕ → Block → List (List ℕ)
-block_words names b B =
-    codes "block" ∷ decimal b ∷ owner_name names B.owner ∷ codes "captured" ∷ decimal B.captured ∷ codes "takes" ∷ decimal B.takes ∷ []
+abbrev pub block_text : List DefinitionEntry → ℕ → Block → List ℕ
+block_text names b B =
+    codes "block" ++ next_number b ++ codes " " ++ owner_name names B.owner ++ codes " captured" ++ next_number B.captured ++ codes " takes" ++ next_number B.takes
 
 abbrev pub block_lines : List DefinitionEntry → ℕ → Block → List ℕ
-block_lines names b B = line (block_words names b B) ++ concat (map instr_line B.code)
+block_lines names b B = line (block_text names b B) ++ flat_map instr_line B.code
 
 -- of blocks from number b on
 abbrev pub listing_from : List DefinitionEntry → ℕ → Program → List ℕ

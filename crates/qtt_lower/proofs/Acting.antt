@@ -1,5 +1,5 @@
 -- What the machine does at an operator whose components are computed, beside what its term does.
-use Rattle.std.proofs.Common.{◌≡◌, ℕ, zero, suc, ◌+◌, ◌-◌, ◌<◌, List, [], ◌∷◌, ◌++◌, length, Option, Some, None, Bool, true, false, ◌&&◌, cond, eqb, ltb, ◌⊎◌, inl, inr, refl, sym, ◌∙◌, ap, subst, arith, length-append}
+use Rattle.std.proofs.Common.{◌≡◌, ℕ, suc, ◌+◌, ◌-◌, List, [], ◌∷◌, ◌++◌, length, Option, Some, None, Bool, true, false, ◌&&◌, cond, eqb, ◌⊎◌, inl, inr, refl, sym, ◌∙◌, ap, subst, arith, length-append}
 use Rattle.std.specs.List.{slice_get}
 use Rattle.std.proofs.lemmas.Bool.{cases_lt, eqb-true, lt-ltb, le-ltb}
 use mathlib.Core.Path.{ap₂}
@@ -13,7 +13,6 @@ use Rattle.qtt_prims.specs.declared.answer.PrimAnswer.TheVariants as answer
 use Rattle.qtt_prims.specs.Apply.{of_numbers, of_number, of_texts, apply}
 use Rattle.qtt_term.specs.Contraction.{chain}
 use Rattle.qtt_erase.specs.Binding.{Tree, ∅, ◌◂◌, ◌◂◂◌, size, push, sub}
-use Rattle.qtt_erase.specs.Operator.{Operator, Def}
 use Rattle.qtt_erase.specs.Step.{Bodies, Outcome, contracts_to, beta, forcing, itself, next}
 use Rattle.qtt_erase.specs.Step as flat_step
 use Rattle.qtt_erase.proofs.Bindings.{sub-var}
@@ -21,11 +20,11 @@ use Rattle.qtt_closure.specs.Flat as flat
 use Rattle.qtt_closure.specs.Flat.{Closure, FlatTerm, FlatTerms, Function, binders, closures}
 use Rattle.qtt_code.specs.Value.{Value, Values, ◌▹◌, listed}
 use Rattle.qtt_code.specs.Instruction.{Position, Instr, Block, Program}
-use Rattle.qtt_code.specs.Machine.{Frame, State, Did, Taken, moved, onward, left_with, with_locals, in_frame, pushing, pushes, makes, taken, begin, suspended, enters, calls, forces, arity, as_literal, literals, truth, answers, applies, computes, does, instruction, Reaches}
-use Rattle.qtt_lower.specs.Lowering.{given, given_width, variable, code, width, branch_codes, block}
+use Rattle.qtt_code.specs.Machine.{Frame, State, Did, moved, onward, left_with, in_frame, pushes, makes, taken, begin, suspended, enters, calls, forces, arity, as_literal, literals, truth, answers, applies, computes, does, instruction, Reaches}
+use Rattle.qtt_lower.specs.Lowering.{given, given_width, variable, code, block}
 use Rattle.qtt_lower.specs.Lowerable.{Lowerable, IsBlock, IsLowered}
-use Rattle.qtt_lower.specs.Represents.{flat_value, flat_values, flats, count, onto, variables, depth, filling, filled, Pending, plug, Stands, Next, Waits, Continues, Ends, Represents}
-use Rattle.qtt_lower.proofs.Values.{append-none, flats-append, flats-listed, flats-size, listed-length, taken-pushed, Found, found, in-first, in-second}
+use Rattle.qtt_lower.specs.Represents.{flat_value, flat_values, flats, count, onto, variables, depth, Pending, plug, Stands, Next, Waits, Continues, Ends, Represents}
+use Rattle.qtt_lower.proofs.Values.{append-none, flats-append, flats-listed, flats-size, taken-pushed, in-first, in-second}
 use Rattle.qtt_lower.proofs.Parts.{stands-whole}
 
 abbrev pub state : Frame → List Frame → State
@@ -82,7 +81,7 @@ module _ (C : Program) where
   pub variable-pushes : (f : Frame) (fs : List Frame) (l : ℕ) (v : Value) → slice_get (variables f) l ≡ Some v →
       does C (Some (variable (length f.captured) l)) (state f fs) ≡ pushes (Some v) (state f fs)
   variable-pushes f fs l v h = elim (cases_lt l (length f.captured)) [
-    inl p ↦
+    | inl p ↦
         ap (λ b. does C (Some (cond b (Instr.captured l) (Instr.local (l - length f.captured)))) (state f fs)) (lt-ltb l (length f.captured) p)
         ∙ ap (λ o. pushes o (state f fs)) (sym (in-first f.captured f.locals l p) ∙ h)
     | inr p ↦
@@ -183,7 +182,7 @@ module _ (e : GlobalId → ℕ) (C : Program) where
         Continues e (onward (left_with below f)) fs ps → Computes o (left_with below f) end fs ps (state f fs) t (flat_step.primitive p r)
     literals-act p vs None h k n d c = tt
     literals-act p vs (Some ls) h k n d c = elim (has-arity p ls) [
-      inl a ↦
+      | inl a ↦
           answer-acts (apply p ls)
           (ap (λ j. does C j (state f fs)) n
           ∙ ap (λ l. computes p (taken (arity p) Values.none l) (state f fs)) d
@@ -210,15 +209,14 @@ module _ (e : GlobalId → ℕ) (P : flat.Program) (D : Bodies Closure) (C : Pro
         Computes e C o f end fs ps s t (Outcome.step (sub binders (push xs Tree.var) F.body))
     begins n F ws args xs (d, b, l) x c k h w =
         let g : Frame = begin (block e d F) (listed ws) args in
-        let m : F.captured + F.takes ≡ depth g = ap₂ ◌+◌ c k ∙ sym (length-append (listed ws) args) in
-        (
+        let m : F.captured + F.takes ≡ depth g = ap₂ ◌+◌ c k ∙ sym (length-append (listed ws) args) in (
           state g gs,
           tick (h (block e d F) b),
           subst (λ ts. Represents e (plug ps (sub binders (push ts Tree.var) F.body)) (state g gs)) (sym x)
-          (Represents.computes Position.tail F.body (subst (λ j. Lowerable j F.body) m l)
-          (subst (λ j. Stands g.code 0 (code e j Position.tail (depth g) 0 F.body)) c
-          (subst (λ j. Stands g.code 0 (code e F.captured Position.tail j 0 F.body)) m (stands-whole g.code)))
-          (Ends.gives_back refl w)),
+              (Represents.computes Position.tail F.body (subst (λ j. Lowerable j F.body) m l)
+              (subst (λ j. Stands g.code 0 (code e j Position.tail (depth g) 0 F.body)) c
+              (subst (λ j. Stands g.code 0 (code e F.captured Position.tail j 0 F.body)) m (stands-whole g.code)))
+              (Ends.gives_back refl w)),
         )
 
     -- a function that is found is entered where it takes so many arguments and captured so many values

@@ -2,21 +2,19 @@
 use Rattle.std.proofs.Common.{◌≡◌, ℕ, zero, suc, ◌+◌, ◌≤◌, List, [], ◌∷◌, ◌++◌, length, Option, Some, None, Bool, true, false, cond, eqb, refl, sym, ◌∙◌, ap, subst, arith, length-append, append_assoc, append-nil}
 use Rattle.std.specs.List.{slice_get}
 use Rattle.std.proofs.lemmas.Bool.{eqb-true}
-use mathlib.Core.Path.{ap₂}
 use Rattle.qtt_base.specs.declared.place.GlobalId.{GlobalId}
 use Rattle.qtt_term.specs.Contraction.{chain}
 use Rattle.qtt_erase.specs.Binding.{Tree, ∅, ◌◂◌, ◌◂◂◌, size, push, lifts, sub, subs}
-use Rattle.qtt_erase.specs.Operator.{Operator}
-use Rattle.qtt_erase.specs.Step.{Bodies, Outcome, as_con, scrutinee, contracts_to, branch_at, select, iota}
+use Rattle.qtt_erase.specs.Step.{Outcome, as_con, scrutinee, contracts_to, branch_at, select, iota}
 use Rattle.qtt_closure.specs.Flat as flat
 use Rattle.qtt_closure.specs.Flat.{Closure, FlatTerm, FlatTerms, binders, closures}
 use Rattle.qtt_code.specs.Value.{Value, Values, ◌▹◌, listed}
 use Rattle.qtt_code.specs.Instruction.{Position, Instr, Program}
-use Rattle.qtt_code.specs.Machine.{Frame, State, Did, moved, onward, left_with, with_locals, branches, switches, does, instruction, Reaches}
-use Rattle.qtt_lower.specs.Lowering.{drops, jumps, joins, join_width, width, branch_widths, branch_places, code, branch_codes}
+use Rattle.qtt_code.specs.Machine.{Frame, moved, left_with, with_locals, branches, switches, does}
+use Rattle.qtt_lower.specs.Lowering.{jumps, joins, join_width, width, branch_widths, branch_places, code, branch_codes}
 use Rattle.qtt_lower.specs.Lowerable.{Lowerable, AllLowerable}
 use Rattle.qtt_lower.specs.Represents.{flat_value, flat_values, flats, count, onto, variables, depth, filling, filled, Pending, plug, firsts, Stands, Next, Continues, Ends, Represents}
-use Rattle.qtt_lower.proofs.Values.{append-none, append-assoc, flats-append, flats-listed, values-size, listed-length, branch-filled}
+use Rattle.qtt_lower.proofs.Values.{append-assoc, flats-append, flats-listed, values-size, listed-length, branch-filled}
 use Rattle.qtt_lower.proofs.Parts.{stands-left, stands-right, code-length, joins-length}
 use Rattle.qtt_lower.proofs.Acting.{state, tick, Computes}
 
@@ -151,15 +149,14 @@ module _ (e : GlobalId → ℕ) (P : flat.Program) (C : Program) (o : Position) 
       let k : count us ≡ h.fields = sym (values-size us) ∙ h.counted in
       let j : h.fields + depth f ≡ depth g = ap (λ i. i + depth f) (sym k) ∙ sym (branch-depth h.at us) in
       let filled_in : u ≡ filled g h.branch =
-          h.put ∙ branch-filled (flats (variables f)) (flat_values us) h.fields h.branch h.counted
-          ∙ ap (λ ws. sub binders (push ws Tree.var) h.branch) (sym (branch-variables h.at us)) in
-      (
+      h.put ∙ branch-filled (flats (variables f)) (flat_values us) h.fields h.branch h.counted
+      ∙ ap (λ ws. sub binders (push ws Tree.var) h.branch) (sym (branch-variables h.at us)) in (
         state g fs,
         tick (ap (λ i. does C i (state f fs)) n ∙ ap (λ l. switches places l (state f fs)) p ∙ ap (λ q. branches q us below (state f fs)) h.found),
         subst (λ r. Represents e (plug ps r) (state g fs)) (sym filled_in)
-        (Represents.computes o h.branch (subst (λ i. Lowerable i h.branch) j h.lowerable)
-        (subst (λ i. Stands g.code h.at (code e (length f.captured) o i h.at h.branch)) j h.stands)
-        (branch-ends e o (left_with below f) us h.fields (h.at + width o h.branch) end h.others k h.joins h.last x)),
+            (Represents.computes o h.branch (subst (λ i. Lowerable i h.branch) j h.lowerable)
+            (subst (λ i. Stands g.code h.at (code e (length f.captured) o i h.at h.branch)) j h.stands)
+            (branch-ends e o (left_with below f) us h.fields (h.at + width o h.branch) end h.others k h.joins h.last x)),
       )
 
   value-acts : (v : Value) (xs : FlatTerms) → Next f (Instr.switch places) → f.pushed ≡ v ∷ below → length ns ≤ size ts →

@@ -1,26 +1,22 @@
 -- The code of a term computes it: it pushes its value where it is one, and else takes its next step or traps.
-use Rattle.std.proofs.Common.{◌≡◌, ℕ, zero, suc, ◌+◌, ◌-◌, ◌<◌, ◌≤◌, List, [], ◌∷◌, ◌++◌, length, Option, Some, None, refl, sym, ◌∙◌, ap, subst, arith, append_assoc, zero-add}
-use Rattle.std.specs.List.{slice_get}
-use mathlib.Core.Path.{ap₂}
+use Rattle.std.proofs.Common.{◌≡◌, ℕ, zero, suc, ◌+◌, ◌<◌, ◌≤◌, List, [], ◌∷◌, ◌++◌, length, Some, None, refl, sym, ◌∙◌, ap, subst, arith, append_assoc}
 use Rattle.qtt_base.specs.declared.place.GlobalId.{GlobalId}
 use Rattle.qtt_term.specs.Contraction.{chain}
-use Rattle.qtt_term.specs.FullStep.{Cause}
-use Rattle.qtt_erase.specs.Binding.{Tree, ∅, ◌◂◌, ◌◂◂◌, size, sub, subs}
+use Rattle.qtt_erase.specs.Binding.{Tree, ∅, ◌◂◌, ◌◂◂◌, size}
 use Rattle.qtt_erase.specs.Operator.{Operator}
 use Rattle.qtt_erase.specs.Step.{Bodies, Outcome, as_con, scrutinee, behind, contracts_to, select, itself, finish, nexts}
 use Rattle.qtt_closure.specs.Flat as flat
 use Rattle.qtt_closure.specs.Flat.{Closure, FlatTerm, FlatTerms, binders, closures, flat_step}
-use Rattle.qtt_closure.specs.Conversion.{closure_at}
 use Rattle.qtt_code.specs.Value.{Value, Values, ◌▹◌}
 use Rattle.qtt_code.specs.Instruction.{Position, Instr, Program}
-use Rattle.qtt_code.specs.Machine.{Frame, State, Did, moved, onward, left_with, makes, taken, does, instruction, Reaches}
-use Rattle.qtt_lower.specs.Lowering.{given, given_width, own, own_width, branches, branch_count, variable, width, widths, branch_widths, branch_places, operands, code, branch_codes}
-use Rattle.qtt_lower.specs.Lowerable.{AreVariables, Lowerable, AllLowerable, IsLowered}
-use Rattle.qtt_lower.specs.Represents.{flat_value, flat_values, flats, count, onto, variables, depth, filling, filled, Pending, plug, firsts, front, pending, Stands, Next, IsComputed, rest_from, rest_end, code_in, rest_in, IsComputing, Continues, Ends, Represents}
-use Rattle.qtt_lower.proofs.Values.{◌▹▹◌, append-none, append-assoc, values-append, values-size, count-append, onto-append, value-stays, found}
-use Rattle.qtt_lower.proofs.Parts.{stands-left, stands-right, code-length, lasts, code-parts, parts-end, filled-parts, operator-binders}
-use Rattle.qtt_lower.proofs.Pending.{is-pending, front-size, acts-itself, steps-inside, traps-inside, stuck-inside}
-use Rattle.qtt_lower.proofs.Acting.{state, Lands, given-lands, given-first, chained, one, pushed-next, made-next, variable-pushes, Computes, landed, primitive-acts, suspends, call-acts, force-acts, definition-acts}
+use Rattle.qtt_code.specs.Machine.{Frame, State, moved, left_with, makes, taken, does, Reaches}
+use Rattle.qtt_lower.specs.Lowering.{given, given_width, own, branches, branch_count, width, branch_widths, branch_places, operands, code, branch_codes}
+use Rattle.qtt_lower.specs.Lowerable.{AllLowerable, IsLowered}
+use Rattle.qtt_lower.specs.Represents.{flat_value, flat_values, count, onto, depth, Pending, firsts, front, Stands, Next, IsComputed, rest_from, rest_end, code_in, rest_in, IsComputing, Ends}
+use Rattle.qtt_lower.proofs.Values.{◌▹▹◌, append-none, append-assoc, values-append, count-append, onto-append, value-stays}
+use Rattle.qtt_lower.proofs.Parts.{stands-left, stands-right, code-length, lasts, code-parts}
+use Rattle.qtt_lower.proofs.Pending.{front-size}
+use Rattle.qtt_lower.proofs.Acting.{state, Lands, given-lands, given-first, one, made-next, Computes, landed, primitive-acts, suspends, call-acts, force-acts}
 use Rattle.qtt_lower.proofs.Branching.{case-acts}
 
 -- ---- one more component is done
@@ -166,9 +162,10 @@ module _ (e : GlobalId → ℕ) (P : flat.Program) (D : Bodies Closure) (C : Pro
         Stands f.code (suc f.place) (branch_codes e (length f.captured) o (depth f) q (q + branch_widths o ns ts) ns ts) →
         Next f (Instr.switch (branch_places o (suc f.place) ns ts))
         × Stands f.code (suc f.place) (branch_codes e (length f.captured) o (depth f) (suc f.place) (q + branch_widths o ns ts) ns ts)
-    case-instructions ns q z n s =
-        (subst (λ p. Next f (Instr.switch (branch_places o p ns ts))) z n,
-        subst (λ p. Stands f.code (suc f.place) (branch_codes e (length f.captured) o (depth f) p (q + branch_widths o ns ts) ns ts)) z s)
+    case-instructions ns q z n s = (
+      subst (λ p. Next f (Instr.switch (branch_places o p ns ts))) z n,
+      subst (λ p. Stands f.code (suc f.place) (branch_codes e (length f.captured) o (depth f) p (q + branch_widths o ns ts) ns ts)) z s,
+    )
 
     pub acts : (F : Operator Closure) → Acts F
     acts (Operator.function c) i x = absurd i.computed

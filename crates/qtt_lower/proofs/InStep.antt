@@ -1,17 +1,16 @@
 -- The law of lowering: values go back through the frames that wait for them.
-use Rattle.std.proofs.Common.{◌≡◌, ℕ, zero, suc, ◌+◌, ◌-◌, List, [], ◌∷◌, ◌++◌, length, take, Some, refl, sym, ◌∙◌, ap, subst, arith, length-append}
-use Rattle.std.proofs.lemmas.List.{take-append-le}
+use Rattle.std.proofs.Common.{◌≡◌, ℕ, ◌-◌, List, [], ◌∷◌, ◌++◌, length, take, refl, sym, ◌∙◌, ap, subst, arith, length-append}
 use Rattle.qtt_base.specs.declared.place.GlobalId.{GlobalId}
-use Rattle.qtt_erase.specs.Binding.{Tree, ∅, ◌◂◌, ◌◂◂◌, size, subs}
-use Rattle.qtt_erase.specs.Operator.{Operator, App, Def}
+use Rattle.qtt_erase.specs.Binding.{Tree, ∅, ◌◂◌, ◌◂◂◌, subs}
+use Rattle.qtt_erase.specs.Operator.{Operator, Def}
 use Rattle.qtt_erase.specs.Step.{Bodies, Outcome}
 use Rattle.qtt_closure.specs.Flat as flat
 use Rattle.qtt_closure.specs.Flat.{Closure, FlatTerm, FlatTerms, binders, flat_step}
 use Rattle.qtt_code.specs.Value.{Value, Values, ◌▹◌}
-use Rattle.qtt_code.specs.Instruction.{Position, Instr, Program}
-use Rattle.qtt_code.specs.Machine.{Frame, State, Did, moved, onward, left_with, with_locals, returns_to, does, instruction, Reaches, start, called}
+use Rattle.qtt_code.specs.Instruction.{Position, Program}
+use Rattle.qtt_code.specs.Machine.{Frame, State, Did, moved, onward, left_with, with_locals, returns_to, does, instruction, Reaches}
 use Rattle.qtt_lower.specs.Lowerable.{IsLowered}
-use Rattle.qtt_lower.specs.Represents.{flat_value, flat_values, filling, filled, Pending, plug, front, pending, rest_end, Waits, Continues, Ends, Represents}
+use Rattle.qtt_lower.specs.Represents.{flat_value, flat_values, filling, filled, Pending, plug, front, rest_end, Waits, Continues, Ends, Represents}
 use Rattle.qtt_lower.specs.Laws.{Follows, CodeRunsInStep, RunsBegin}
 use Rattle.qtt_lower.proofs.Values.{◌▹▹◌, value-stays}
 use Rattle.qtt_lower.proofs.Pending.{ArePending, plug-steps, plug-traps, plug-stuck, ends-pending}

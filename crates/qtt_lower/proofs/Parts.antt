@@ -1,14 +1,12 @@
 -- Where the parts of a term's code stand.
-use Rattle.std.proofs.Common.{◌≡◌, ℕ, zero, suc, ◌+◌, List, [], ◌∷◌, ◌++◌, length, Some, refl, sym, ◌∙◌, ap, subst, arith, length-append}
-use Rattle.std.specs.List.{slice_get}
+use Rattle.std.proofs.Common.{◌≡◌, ℕ, zero, suc, ◌+◌, List, [], ◌∷◌, ◌++◌, length, refl, ◌∙◌, ap, subst, arith, length-append}
 use mathlib.Core.Path.{ap₂}
 use Rattle.qtt_base.specs.declared.place.GlobalId.{GlobalId}
-use Rattle.qtt_term.specs.Term.{first, rest}
 use Rattle.qtt_erase.specs.Binding.{Tree, ∅, ◌◂◌, ◌◂◂◌, size, lifts, sub, subs}
 use Rattle.qtt_erase.specs.Operator.{Operator}
 use Rattle.qtt_closure.specs.Flat.{Closure, FlatTerm, FlatTerms, binders}
 use Rattle.qtt_code.specs.Instruction.{Position, Instr}
-use Rattle.qtt_lower.specs.Lowering.{given, own, given_width, own_width, branches, branch_count, drops, jumps, joins, join_width, width, widths, branch_widths, branch_places, branches_from, code, operands, branch_codes}
+use Rattle.qtt_lower.specs.Lowering.{given, own, given_width, own_width, branches, branch_count, jumps, joins, join_width, width, widths, branch_widths, branch_places, branches_from, code, operands, branch_codes}
 use Rattle.qtt_lower.specs.Represents.{Stands, firsts, rest_from, rest_end}
 
 -- ---- instructions from a place on

@@ -1,16 +1,16 @@
 -- What a flat term does next, by what a component does next around which operators are pending.
-use Rattle.std.proofs.Common.{◌≡◌, ℕ, zero, suc, ◌+◌, ◌≤◌, List, [], ◌∷◌, length, refl, sym, ◌∙◌, ap, subst, arith}
-use Rattle.qtt_erase.specs.Binding.{Tree, ∅, ◌◂◌, ◌◂◂◌, size, subs}
+use Rattle.std.proofs.Common.{◌≡◌, ℕ, zero, suc, ◌≤◌, List, [], ◌∷◌, refl, sym, ◌∙◌, ap, arith}
+use Rattle.qtt_erase.specs.Binding.{Tree, ∅, ◌◂◌, ◌◂◂◌, size}
 use Rattle.qtt_erase.specs.Operator.{Operator, waiting_of}
-use Rattle.qtt_erase.specs.Step.{Bodies, Outcome, behind, before, itself, finish, next, nexts}
+use Rattle.qtt_erase.specs.Step.{Bodies, Outcome, behind, before, itself, finish, nexts}
 use Rattle.qtt_erase.proofs.Bindings.{subs-size}
 use Rattle.qtt_closure.specs.Flat.{Closure, FlatTerm, FlatTerms, Program, binders, closures, flat_step}
 use Rattle.qtt_code.specs.Value.{Value, Values, ◌▹◌}
 use Rattle.qtt_code.specs.Instruction.{Position}
 use Rattle.qtt_code.specs.Machine.{Frame}
 use Rattle.qtt_lower.specs.Lowering.{branches, branch_count}
-use Rattle.qtt_lower.specs.Represents.{flat_value, flat_values, count, Pending, plug, firsts, filling, front, pending, IsComputed, IsComputing, Waits, Continues, Ends}
-use Rattle.qtt_lower.proofs.Values.{append-assoc, value-stays, values-stay}
+use Rattle.qtt_lower.specs.Represents.{flat_value, flat_values, Pending, plug, firsts, filling, front, pending, IsComputed, IsComputing, Waits, Continues, Ends}
+use Rattle.qtt_lower.proofs.Values.{append-assoc, value-stays}
 
 -- done components before others
 abbrev behind_all : FlatTerms → Outcome FlatTerms → Outcome FlatTerms

@@ -1,10 +1,9 @@
 -- The code of a lowered program takes the steps of the term that it represents.
-use Rattle.std.proofs.Common.{◌≡◌, ℕ, zero, suc, ◌+◌, ◌-◌, ◌<◌, ◌≤◌, List, [], ◌∷◌, ◌++◌, length, take, ◌⊎◌, inl, inr, Option, Some, None, refl, sym, ◌∙◌, ap, subst, arith, length-append, zero-add}
-use Rattle.std.specs.List.{slice_get}
+use Rattle.std.proofs.Common.{◌≡◌, ℕ, zero, suc, ◌+◌, ◌-◌, ◌≤◌, List, [], ◌∷◌, ◌++◌, length, inl, inr, Some, refl, sym, ◌∙◌, ap, subst, arith, zero-add}
 use Rattle.std.proofs.lemmas.Bool.{cases_lt}
 use Rattle.qtt_base.specs.declared.place.GlobalId.{GlobalId}
 use Rattle.qtt_prims.specs.declared.lit.Lit.{Lit}
-use Rattle.qtt_erase.specs.Binding.{Tree, ∅, ◌◂◌, ◌◂◂◌, size, sub, subs}
+use Rattle.qtt_erase.specs.Binding.{Tree, ∅, ◌◂◌, ◌◂◂◌, size, subs}
 use Rattle.qtt_erase.specs.Operator.{Operator}
 use Rattle.qtt_erase.specs.Step.{Bodies, Outcome}
 use Rattle.qtt_erase.proofs.Bindings.{subs-size}
@@ -12,15 +11,14 @@ use Rattle.qtt_closure.specs.Flat as flat
 use Rattle.qtt_closure.specs.Flat.{Closure, FlatTerm, FlatTerms, binders, flat_step}
 use Rattle.qtt_code.specs.Value.{Value, Values, ◌▹◌}
 use Rattle.qtt_code.specs.Instruction.{Position, Instr, Program}
-use Rattle.qtt_code.specs.Machine.{Frame, State, Did, moved, onward, left_with, with_locals, makes, pushes, taken, returns, returns_to, does, instruction, Reaches}
-use Rattle.qtt_lower.specs.Lowering.{given, given_width, own_width, branches, branch_count, variable, width, widths, branch_widths, operands, code}
-use Rattle.qtt_lower.specs.Lowerable.{AreVariables, IsNone, Lowerable, AllLowerable, IsLowered}
-use Rattle.qtt_lower.specs.Represents.{flat_value, flat_values, flats, count, onto, variables, depth, filling, filled, Pending, plug, firsts, front, pending, Stands, Next, IsComputed, rest_from, rest_end, code_in, IsComputing, Waits, Continues, Ends, Represents}
-use Rattle.qtt_lower.specs.Laws.{Follows, CodeRunsInStep}
-use Rattle.qtt_lower.proofs.Values.{◌▹▹◌, append-none, values-size, value-stays, found}
+use Rattle.qtt_code.specs.Machine.{Frame, State, moved, onward, left_with, pushes, does, Reaches}
+use Rattle.qtt_lower.specs.Lowering.{given, given_width, branches, branch_count, variable, width, widths, branch_widths, operands}
+use Rattle.qtt_lower.specs.Lowerable.{AreVariables, Lowerable, AllLowerable, IsLowered}
+use Rattle.qtt_lower.specs.Represents.{flat_value, flat_values, count, onto, variables, depth, filling, filled, Pending, front, pending, Stands, IsComputed, rest_end, code_in, IsComputing, Continues, Ends}
+use Rattle.qtt_lower.proofs.Values.{◌▹▹◌, append-none, values-size, found}
 use Rattle.qtt_lower.proofs.Parts.{stands-left, stands-right, operands-length, lasts, parts-end, filled-parts, operator-binders}
-use Rattle.qtt_lower.proofs.Pending.{ArePending, is-pending, acts-itself, steps-inside, traps-inside, stuck-inside, plug-steps, plug-traps, plug-stuck, ends-pending}
-use Rattle.qtt_lower.proofs.Acting.{state, Lands, given-lands, given-first, chained, one, pushed-next, made-next, variable-pushes, Computes, definition-acts, suspends}
+use Rattle.qtt_lower.proofs.Pending.{is-pending, acts-itself, steps-inside, traps-inside, stuck-inside}
+use Rattle.qtt_lower.proofs.Acting.{state, given-lands, given-first, chained, one, pushed-next, made-next, variable-pushes, Computes, definition-acts, suspends}
 use Rattle.qtt_lower.proofs.Computing.{value-first, from-later, during, with-value, first-stands, begin-operator, short-is-stuck, gives, acts}
 
 module _ (e : GlobalId → ℕ) (P : flat.Program) (D : Bodies Closure) (C : Program) (L : IsLowered e P D C) where
@@ -44,14 +42,13 @@ module _ (e : GlobalId → ℕ) (P : flat.Program) (D : Bodies Closure) (C : Pro
       let w = found (variables f) Tree.var i (omega (arith, l.0)) in
       let g : Frame = left_with (w.value ∷ f.pushed) (onward f) in
       let z : f.place + 1 ≡ suc f.place = omega arith in
-      let r = pushes-variables g fs ts a l.1 (subst (λ p. Stands f.code p (operands e (length f.captured) (depth f) p 0 ts)) z (subst (λ p. Stands f.code p (operands e (length f.captured) (depth f) (f.place + 1) 0 ts)) (sym z) s.1)) in
-      (
+      let r = pushes-variables g fs ts a l.1 (subst (λ p. Stands f.code p (operands e (length f.captured) (depth f) p 0 ts)) z (subst (λ p. Stands f.code p (operands e (length f.captured) (depth f) (f.place + 1) 0 ts)) (sym z) s.1)) in (
         w.value ▹ r.0,
         ap (λ t. t ◂ subs binders [] (filling f) ts) w.put ∙ ap (λ us. flat_value w.value ◂ us) r.1,
         ap suc r.2,
         Reaches.goes (pushed-next C f fs (variable (length f.captured) (depth f - suc i)) w.value s.0 (variable-pushes C f fs (depth f - suc i) w.value w.stands))
-        (subst (λ p. Reaches C 0 (state g fs) (state (left_with (onto r.0 (w.value ∷ f.pushed)) (moved p f)) fs))
-        (let y : suc f.place + widths 0 ts ≡ f.place + (1 + widths 0 ts) = omega arith in y) r.3),
+            (subst (λ p. Reaches C 0 (state g fs) (state (left_with (onto r.0 (w.value ∷ f.pushed)) (moved p f)) fs))
+            (let y : suc f.place + widths 0 ts ≡ f.place + (1 + widths 0 ts) = omega arith in y) r.3),
       )
 
   -- ---- an operator with its first component under computation
@@ -82,9 +79,9 @@ module _ (e : GlobalId → ℕ) (P : flat.Program) (D : Bodies Closure) (C : Pro
         let g : Frame = moved (f.place + width Position.inner t) f in
         let n : FlatTerm = Tree.node F ((front f F ts ◂◂ flat_values (vs ▹▹ v ▹ Values.none)) ◂◂ subs binders [] (filling f) us) in
         let same : n ≡ inside (filled f t) =
-            ap (Tree.node F) (value-first (front f F ts) vs v (subs binders [] (filling f) us)) ∙ ap inside (sym put) in
+        ap (Tree.node F) (value-first (front f F ts) vs v (subs binders [] (filling f) us)) ∙ ap inside (sym put) in
         let r : Reaches C 0 (state f fs) (state (left_with (v ∷ f.pushed) g) fs) =
-            subst (λ p. Reaches C 0 (state f fs) (state (left_with (v ∷ f.pushed) (moved p f)) fs)) at w in
+        subst (λ p. Reaches C 0 (state f fs) (state (left_with (v ∷ f.pushed) (moved p f)) fs)) at w in
         subst (λ x. Computes e C o (left_with below f) end fs ps (state f fs) x (flat_step P D x)) same
         (computes-before o (left_with below f) end fs ps (state f fs) (state (left_with (v ∷ f.pushed) g) fs) n (flat_step P D n) r
         (subst (λ p. Computes e C o (left_with below f) (p + branch_widths o (branches F) ts) fs ps (state (left_with (v ∷ f.pushed) g) fs) n (flat_step P D n))
@@ -99,9 +96,9 @@ module _ (e : GlobalId → ℕ) (P : flat.Program) (D : Bodies Closure) (C : Pro
   whole o f fs ps F ts h =
       let n : FlatTerm = Tree.node F ((front f F ts ◂◂ ∅) ◂◂ subs binders [] (filling f) (lasts (branch_count F) ts)) in
       let same : n ≡ filled f (Tree.node F ts) =
-          ap (Tree.node F)
-          (ap (λ xs. xs ◂◂ subs binders [] (filling f) (lasts (branch_count F) ts)) (append-none (front f F ts))
-          ∙ sym (filled-parts (branches F) (filling f) ts) ∙ ap (λ ns. subs binders ns (filling f) ts) (sym (operator-binders F))) in
+      ap (Tree.node F)
+      (ap (λ xs. xs ◂◂ subs binders [] (filling f) (lasts (branch_count F) ts)) (append-none (front f F ts))
+      ∙ sym (filled-parts (branches F) (filling f) ts) ∙ ap (λ ns. subs binders ns (filling f) ts) (sym (operator-binders F))) in
       subst (λ x. Computes e C o f (f.place + width o (Tree.node F ts)) fs ps (state f fs) x (flat_step P D x)) same
       (subst (λ p. Computes e C o f p fs ps (state f fs) n (flat_step P D n)) (sym (parts-end o f.place F ts)) h)
 
@@ -110,7 +107,7 @@ module _ (e : GlobalId → ℕ) (P : flat.Program) (D : Bodies Closure) (C : Pro
       (branch_count F ≤ size ts → Computes e C o f (f.place + width o (Tree.node F ts)) fs ps (state f fs) (filled f (Tree.node F ts)) (flat_step P D (filled f (Tree.node F ts)))) →
       Computes e C o f (f.place + width o (Tree.node F ts)) fs ps (state f fs) (filled f (Tree.node F ts)) (flat_step P D (filled f (Tree.node F ts)))
   enough o f fs ps F ts h k = elim (cases_lt (size ts) (branch_count F)) [
-    inl n ↦
+    | inl n ↦
         subst (λ x. Computes e C o f (f.place + width o (Tree.node F ts)) fs ps (state f fs) (filled f (Tree.node F ts)) x)
         (sym (short-is-stuck P D F (subs binders (binders F) (filling f) ts) h (let z = subs-size binders ts (binders F) (filling f) in omega (arith, n, z)))) tt
     | inr n ↦ k n
@@ -143,7 +140,7 @@ module _ (e : GlobalId → ℕ) (P : flat.Program) (D : Bodies Closure) (C : Pro
       let g : Frame = moved (f.place + width Position.inner t) f in
       let j = during e f o F ts vs t us below i in
       let y : Ends e o (moved (rest_end o g.place F ts us) (left_with below f)) fs ps =
-          subst (λ p. Ends e o (moved (p + branch_widths o (branches F) ts) (left_with below f)) fs ps) (from-later e o f.place F t us) x in
+      subst (λ p. Ends e o (moved (p + branch_widths o (branches F) ts) (left_with below f)) fs ps) (from-later e o f.place F t us) x in
       around o f fs ps F ts vs below t us i (flat_step P D (filled f t)) refl
       (h Position.inner f fs (pending f F ts vs us ∷ ps) (subst (λ n. Lowerable n t) (zero-add (depth f)) i.components_lowerable.0) (first-stands e f o F ts t us i.stands)
       (Ends.goes_on (Continues.component o F ts vs us below j y)))
@@ -174,11 +171,11 @@ module _ (e : GlobalId → ℕ) (P : flat.Program) (D : Bodies Closure) (C : Pro
       let r = pushes-variables f fs ts l.0.1 l.1 (stands-left f.code f.place (operands e (length f.captured) (depth f) f.place 0 ts) (given o i) ss) in
       let g : Frame = left_with (onto r.0 f.pushed) (moved (f.place + widths 0 ts) f) in
       let st : Stands g.code g.place (given o i) =
-          stands-right f.code f.place (operands e (length f.captured) (depth f) f.place 0 ts) (given o i) (f.place + widths 0 ts)
-          (ap (λ n. f.place + n) (sym (operands-length e (length f.captured) (depth f) f.place 0 ts))) ss in
+      stands-right f.code f.place (operands e (length f.captured) (depth f) f.place 0 ts) (given o i) (f.place + widths 0 ts)
+      (ap (λ n. f.place + n) (sym (operands-length e (length f.captured) (depth f) f.place 0 ts))) ss in
       let same : filled f (Tree.node (Operator.function c) ts) ≡ flat_value (Value.closure c.number r.0) =
-          ap (Tree.node (Operator.function c)) r.1
-          ∙ ap (λ n. Tree.node (Operator.function (record { number = c.number; captured = n })) (flat_values r.0)) (l.0.0 ∙ sym (values-size r.0 ∙ r.2)) in
+      ap (Tree.node (Operator.function c)) r.1
+      ∙ ap (λ n. Tree.node (Operator.function (record { number = c.number; captured = n })) (flat_values r.0)) (l.0.0 ∙ sym (values-size r.0 ∙ r.2)) in
       gives e P D C L o f (f.place + width o (Tree.node (Operator.function c) ts)) fs ps (state f fs) (filled f (Tree.node (Operator.function c) ts)) (Value.closure c.number r.0)
       (suc g.place) same
       (given-lands o (left_with f.pushed g) i (f.place + width o (Tree.node (Operator.function c) ts)) (omega arith) st)

@@ -1,16 +1,16 @@
 -- Values as flat terms, and among what a frame has pushed.
-use Rattle.std.proofs.Common.{◌≡◌, ℕ, zero, suc, ◌+◌, ◌-◌, ◌<◌, ◌≤◌, List, [], ◌∷◌, ◌++◌, length, ◌⊎◌, inl, inr, Option, Some, None, refl, sym, ◌∙◌, ap, subst, arith}
+use Rattle.std.proofs.Common.{◌≡◌, ℕ, zero, suc, ◌+◌, ◌-◌, ◌<◌, ◌≤◌, List, [], ◌∷◌, ◌++◌, length, inl, inr, Some, refl, sym, ◌∙◌, ap, arith}
 use Rattle.std.proofs.lemmas.Bool.{cases_lt}
 use Rattle.std.specs.List.{slice_get}
-use mathlib.Core.Path.{fun_ext, ap₂}
+use mathlib.Core.Path.{fun_ext}
 use Rattle.qtt_term.specs.Substitution.{shift}
-use Rattle.qtt_erase.specs.Binding.{Tree, Trees, ∅, ◌◂◌, ◌◂◂◌, size, cons, push, lift, lifts, sub, subs}
-use Rattle.qtt_erase.specs.Operator.{Operator, Code, Codes}
-use Rattle.qtt_erase.specs.Step.{Bodies, Outcome, behind, before, finish, next, nexts}
+use Rattle.qtt_erase.specs.Binding.{Tree, Trees, ∅, ◌◂◌, ◌◂◂◌, size, cons, push, lift, lifts, sub}
+use Rattle.qtt_erase.specs.Operator.{Operator}
+use Rattle.qtt_erase.specs.Step.{Bodies, Outcome, behind, before, finish, nexts}
 use Rattle.qtt_erase.proofs.Bindings.{sub-ren, sub-sub, sub-var, push-append, push-behind}
 use Rattle.qtt_closure.specs.Flat.{Closure, FlatTerm, FlatTerms, Program, binders, closures, flat_step}
 use Rattle.qtt_code.specs.Value.{Value, Values, ◌▹◌, listed}
-use Rattle.qtt_code.specs.Machine.{Taken, taken}
+use Rattle.qtt_code.specs.Machine.{taken}
 use Rattle.qtt_lower.specs.Represents.{flat_value, flat_values, flats, count, onto}
 
 -- one more value behind others
@@ -147,17 +147,17 @@ found-newest v ρ τ i e = record {
 pub found : (ρ : List Value) (τ : ℕ → FlatTerm) (i : ℕ) → i < length ρ → Found ρ (push (flats ρ) τ) i
 found [] τ i h = absurd (omega (arith, h))
 found (v ∷ ρ) τ i h = elim (cases_lt i (length ρ)) [
-  inl p ↦ found-older v ρ τ i p (found ρ (cons (flat_value v) τ) i p)
+  | inl p ↦ found-older v ρ τ i p (found ρ (cons (flat_value v) τ) i p)
   | inr q ↦ found-newest v ρ τ i (omega (arith, h, q))
 ]
 
 -- an element of one list or of the other
-pub in-first : (xs ys : List Value) (k : ℕ) → k < length xs → slice_get (xs ++ ys) k ≡ slice_get xs k
+pub in-first : {A : Type 0} (xs ys : List A) (k : ℕ) → k < length xs → slice_get (xs ++ ys) k ≡ slice_get xs k
 in-first [] ys k h = absurd (omega (arith, h))
 in-first (x ∷ xs) ys zero h = refl
 in-first (x ∷ xs) ys (suc k) h = in-first xs ys k (omega (arith, h))
 
-pub in-second : (xs ys : List Value) (k : ℕ) → length xs ≤ k → slice_get (xs ++ ys) k ≡ slice_get ys (k - length xs)
+pub in-second : {A : Type 0} (xs ys : List A) (k : ℕ) → length xs ≤ k → slice_get (xs ++ ys) k ≡ slice_get ys (k - length xs)
 in-second [] ys k h = ap (slice_get ys) (let e : k ≡ k - 0 = omega arith in e)
 in-second (x ∷ xs) ys zero h = absurd (omega (arith, h))
 in-second (x ∷ xs) ys (suc k) h = in-second xs ys k (omega (arith, h)) ∙ ap (slice_get ys) (let e : k - length xs ≡ suc k - suc (length xs) = omega arith in e)

@@ -3,7 +3,7 @@
 use Rattle.std.specs.Prelude.{◌≡◌, ℕ, ◌+◌, ◌<◌, List, Some, slice_get}
 use Rattle.qtt_base.specs.declared.place.GlobalId.{GlobalId}
 use Rattle.qtt_term.specs.Term.{first, rest}
-use Rattle.qtt_erase.specs.Binding.{Tree, ∅, ◌◂◌, size}
+use Rattle.qtt_erase.specs.Binding.{Tree, Trees, ∅, ◌◂◌, size}
 use Rattle.qtt_erase.specs.Operator.{Operator}
 use Rattle.qtt_erase.specs.Step.{Bodies}
 use Rattle.qtt_closure.specs.Flat as flat
@@ -16,7 +16,7 @@ AreVariables ∅ = Unit {0}
 AreVariables (Tree.var i ◂ ts) = AreVariables ts
 AreVariables (Tree.node F us ◂ ts) = ⊥
 
-abbrev pub IsNone : FlatTerms → Type 0
+abbrev pub IsNone : {O : Type 0} → Trees O → Type 0
 IsNone ∅ = Unit {0}
 IsNone (t ◂ ts) = ⊥
 

@@ -14,3 +14,6 @@ mod width;
 pub use bases::Bases;
 pub use definition::{Size, lower_one, size_of};
 pub use program::{Compiled, LowerError, lower_all};
+
+#[cfg(test)]
+mod tests;
