@@ -29,7 +29,7 @@ holds-append P n [] Gs h = (tt, h)
 holds-append P n (F ∷ Fs) Gs h = let p = holds-append P (suc n) Fs Gs h.1 in ((h.0, p.0), p.1)
 
 mutual
-  after-from : (t : Lean) (n : ℕ) → after n t ≡ n + after 0 t
+  pub after-from : (t : Lean) (n : ℕ) → after n t ≡ n + after 0 t
   after-from (Tree.var i) n = omega arith
   after-from (Tree.node (Operator.function a) ts) n = let h = afters-from ts (suc n) in let k = afters-from ts 1 in omega (arith, h, k)
   after-from (Tree.node F ts) n = afters-from ts n
@@ -114,11 +114,11 @@ or-either : (a b : Bool) → (a || b) ≡ true → (a ≡ true) ⊎ (b ≡ true)
 or-either true b e = inl refl
 or-either false b e = inr e
 
-shifted : (k i : ℕ) → shift k i ≡ k + i
+pub shifted : (k i : ℕ) → shift k i ≡ k + i
 shifted zero i = omega arith
 shifted (suc k) i = let p = shifted k i in omega arith
 
-shift-suc : (n i : ℕ) → shift (suc n) i ≡ shift n (suc i)
+pub shift-suc : (n i : ℕ) → shift (suc n) i ≡ shift n (suc i)
 shift-suc zero i = refl
 shift-suc (suc n) i = ap suc (shift-suc n i)
 
@@ -244,7 +244,7 @@ module _ {A : Type 0} where
   one-moved ∅ v vs = refl
   one-moved (u ◂ us) v vs = ap (λ ws. u ◂ ws) (one-moved us v vs)
 
-  captured-append : (Δ : Slots) (place : ℕ → ℕ) (vs : Codes A) → captured Δ place vs ≡ captured Δ place ∅ ◂◂ vs
+  pub captured-append : (Δ : Slots) (place : ℕ → ℕ) (vs : Codes A) → captured Δ place vs ≡ captured Δ place ∅ ◂◂ vs
   captured-append [] place vs = refl
   captured-append (Slot.gone ∷ Δ) place vs = captured-append Δ (λ i. place (suc i)) vs
   captured-append (Slot.blank ∷ Δ) place vs =
@@ -279,7 +279,7 @@ module _ {A : Type 0} where
   captured-size (Slot.blank ∷ Δ) place vs = let p = captured-size Δ (λ i. place (suc i)) (Tree.var (place 0) ◂ vs) in omega arith
   captured-size (Slot.filled ∷ Δ) place vs = let p = captured-size Δ (λ i. place (suc i)) (Tree.var (place 0) ◂ vs) in omega arith
 
-captured-places : (A : Type 0) (Δ : Slots) (place : ℕ → ℕ) → size (captured {A = A} Δ place ∅) ≡ places Δ
+pub captured-places : (A : Type 0) (Δ : Slots) (place : ℕ → ℕ) → size (captured {A = A} Δ place ∅) ≡ places Δ
 captured-places A Δ place = let p = captured-size {A = A} Δ place ∅ in omega arith
 
 -- ---- a converted term

@@ -9,22 +9,19 @@ use qtt_usage::mult::Mult;
 use std::alloc::Global;
 use std::test::Fail;
 
-fn item(number: u32) -> GlobalId {
-    GlobalId {
-        module: ModuleId(1),
-        item: number,
-    }
-}
+const ID: GlobalId = GlobalId {
+    module: ModuleId(1),
+    item: 0,
+};
 
-fn named(alloc: Global, name: &str) -> Result<Globals, Fail> {
-    let mut names = Globals::prim(alloc)?;
-    names.add_signature(item(0), Name::new(alloc, name)?, Mult::Many, Term::IntTy)?;
-    Ok(names)
-}
+const MAIN: GlobalId = GlobalId {
+    module: ModuleId(1),
+    item: 1,
+};
 
-fn block(owner: u32, captured: u32, takes: u32, code: Vec<Instr>) -> Block {
+fn block(owner: GlobalId, captured: u32, takes: u32, code: Vec<Instr>) -> Block {
     Block {
-        owner: item(owner),
+        owner,
         captured,
         takes,
         code,
@@ -43,9 +40,10 @@ fn lines(alloc: Global, lines: &[&str]) -> Result<String, Fail> {
 #[test]
 fn identity_is_listed(rt: HostRuntime) -> Result<(), Fail> {
     let alloc = rt.alloc();
-    let mut names = named(alloc, "Main.id")?;
+    let mut names = Globals::prim(alloc)?;
+    names.add_signature(ID, Name::new(alloc, "Main.id")?, Mult::Many, Term::IntTy)?;
     names.add_signature(
-        item(1),
+        MAIN,
         Name::new(alloc, "Main.main")?,
         Mult::Many,
         Term::IntTy,
@@ -61,9 +59,9 @@ fn identity_is_listed(rt: HostRuntime) -> Result<(), Fail> {
         Instr::Return,
     ]?;
     let blocks = vec![in alloc;
-        block(0, 0, 0, closed),
-        block(0, 0, 1, same),
-        block(1, 0, 0, main),
+        block(ID, 0, 0, closed),
+        block(ID, 0, 1, same),
+        block(MAIN, 0, 0, main),
     ]?;
     let text = listing(alloc, &Program { blocks }, &names)?;
     let expected = [
@@ -88,7 +86,7 @@ fn identity_is_listed(rt: HostRuntime) -> Result<(), Fail> {
 #[test]
 fn branches_are_listed(rt: HostRuntime) -> Result<(), Fail> {
     let alloc = rt.alloc();
-    let names = named(alloc, "Main.append")?;
+    let names = Globals::prim(alloc)?;
     let code = vec![in alloc;
         Instr::Captured(0),
         Instr::Switch(vec![in alloc; 2, 4]?),
@@ -101,10 +99,10 @@ fn branches_are_listed(rt: HostRuntime) -> Result<(), Fail> {
         Instr::Local(0),
         Instr::TailCall,
     ]?;
-    let blocks = vec![in alloc; block(0, 1, 1, code)]?;
+    let blocks = vec![in alloc; block(ID, 1, 1, code)]?;
     let text = listing(alloc, &Program { blocks }, &names)?;
     let expected = [
-        "block 0 Main.append captured 1 takes 1",
+        "block 0 _ captured 1 takes 1",
         "  captured 0",
         "  switch 2 4",
         "  closure 9 0",
@@ -123,7 +121,7 @@ fn branches_are_listed(rt: HostRuntime) -> Result<(), Fail> {
 #[test]
 fn other_instructions_are_listed(rt: HostRuntime) -> Result<(), Fail> {
     let alloc = rt.alloc();
-    let names = named(alloc, "Main.x")?;
+    let names = Globals::prim(alloc)?;
     let code = vec![in alloc;
         Instr::Text(Text::from_str(alloc, "a \"b\"\\\n\t")?),
         Instr::Int(-9_223_372_036_854_775_808),
@@ -136,7 +134,7 @@ fn other_instructions_are_listed(rt: HostRuntime) -> Result<(), Fail> {
         Instr::Switch(Vec::new(alloc)),
         Instr::Trap,
     ]?;
-    let blocks = vec![in alloc; block(5, 0, 0, code)]?;
+    let blocks = vec![in alloc; block(MAIN, 0, 0, code)]?;
     let text = listing(alloc, &Program { blocks }, &names)?;
     let expected = [
         "block 0 _ captured 0 takes 0",
