@@ -1,6 +1,7 @@
 -- A program as a whole is lowered.
-use Rattle.std.proofs.Common.{◌≡◌, ℕ, zero, suc, ◌+◌, ◌-◌, ◌<◌, ◌≤◌, List, [], ◌∷◌, ◌++◌, length, get_or, ◌⊎◌, inl, inr, Option, Some, None, option_map, Bool, true, false, cond, refl, sym, ◌∙◌, ap, subst, arith}
+use Rattle.std.proofs.Common.{◌≡◌, ℕ, zero, suc, ◌+◌, ◌-◌, ◌<◌, ◌≤◌, List, [], ◌∷◌, ◌++◌, length, get_or, Contains, ◌⊎◌, inl, inr, Option, Some, None, option_map, Bool, true, false, cond, refl, sym, ◌∙◌, ap, subst, arith}
 use Rattle.std.specs.List.{slice_get}
+use mathlib.Core.Path.{fun_ext}
 use Rattle.std.proofs.lemmas.Bool.{cases_lt}
 use Rattle.std.proofs.lemmas.List.{length-map}
 use Rattle.std.proofs.lemmas.Option.{slice_get-map}
@@ -185,6 +186,13 @@ bodies-found E [] d k h g = absurd (omega (arith, h))
 bodies-found E (c ∷ ds) d zero h g = first-found E c ds d g (erased_bodies E c) refl
 bodies-found E (c ∷ ds) d (suc k) h g = later-found E c ds d (erased_bodies E c) refl (bodies-found E ds d k (omega (arith, h)) g)
 
+all-found : (E : Env) (ds : List GlobalId) → ((d : GlobalId) (t : Lean) → erased_bodies E d ≡ Some t → Contains ds d) → lean_bodies (bodies E ds) ≡ erased_bodies E
+all-found E ds h = fun_ext (λ d. at d (erased_bodies E d) refl)
+  where
+    at : (d : GlobalId) (o : Option Lean) → erased_bodies E d ≡ o → lean_bodies (bodies E ds) d ≡ erased_bodies E d
+    at d None q = elim (found-or-none E ds d) [ inl p ↦ p | inr p ↦ p ∙ sym q ]
+    at d (Some t) q = let k = h d t q in bodies-found E ds d k.0 k.1 k.2
+
 pub programs-are-lowered : ProgramsAreLowered
 programs-are-lowered = record {
   conversions = λ bs s d. conversions-of (flat_program bs) 0 bs s (λ k x h. ap (slice_get (functions_from 0 bs)) (let w : 0 + k ≡ k = omega arith in w) ∙ h) d;
@@ -194,5 +202,5 @@ programs-are-lowered = record {
         (definitions-of (entry (bases bs)) (program bs) 0 bs s (λ k x g. ap (slice_get (program bs)) (let w : 0 + k ≡ k = omega arith in w) ∙ g) d);
   };
   sources = λ E h ds. bodies-are-sources E h ds;
-  erased = λ E ds d h. bodies-found E ds d h.0 h.1 h.2;
+  erased = all-found;
 }

@@ -1,5 +1,5 @@
 -- The laws of lowering: code takes the steps of the term that it represents, tick for step; and a program is lowered as a whole.
-use Rattle.std.specs.Prelude.{◌≡◌, ℕ, List, [], ◌∷◌, Contains}
+use Rattle.std.specs.Prelude.{◌≡◌, ℕ, List, [], ◌∷◌, Some, Contains}
 use Rattle.qtt_base.specs.declared.place.GlobalId.{GlobalId}
 use Rattle.qtt_term.specs.Signature.{Env}
 use Rattle.qtt_erase.specs.Operator.{App, Def}
@@ -46,7 +46,8 @@ pub record ProgramsAreLowered : Type 0 where
   pub blocks : (bs : List Body) → AreSources bs → IsLowered (entry (bases bs)) (flat_program bs) (flat_bodies bs) (program bs)
   -- the erased bodies of the definitions of an environment
   pub sources : (E : Env) → HasWholeBodies E → (ds : List GlobalId) → AreSources (bodies E ds)
-  pub erased : (E : Env) (ds : List GlobalId) (d : GlobalId) → Contains ds d → lean_bodies (bodies E ds) d ≡ erased_bodies E d
+  pub erased : (E : Env) (ds : List GlobalId) → ((d : GlobalId) (t : Lean) → erased_bodies E d ≡ Some t → Contains ds d) →
+      lean_bodies (bodies E ds) ≡ erased_bodies E
 
 -- the machine over the program of erased bodies, beside the evaluation of erased terms
 pub record ProgramRuns (bs : List Body) : Type 0 where
