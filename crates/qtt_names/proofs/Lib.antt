@@ -1,0 +1,1 @@
+-- Lemmas on the names of a module.
