@@ -1,1 +1,5 @@
 -- Lemmas on the names of a module.
+pub mod Steps
+pub mod Parts
+pub mod Looking
+pub mod Dots

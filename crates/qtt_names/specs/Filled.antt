@@ -32,6 +32,16 @@ bound_by (bind n e) = n.name ∷ []
 bound_by (local m n t e s) = n.name ∷ []
 bound_by (run e s) = []
 
+-- behind an argument stands what stands before it
+abbrev pub unmoved : List (List ℕ) → Argument → List (List ℕ)
+unmoved Γ a = Γ
+
+abbrev pub behind_binder : List (List ℕ) → Binder → List (List ℕ)
+behind_binder Γ b = Γ ++ binder_name b ∷ []
+
+abbrev pub behind_statement : List (List ℕ) → Statement → List (List ℕ)
+behind_statement Γ s = Γ ++ bound_by s
+
 abbrev mutual
   -- an expression behind the local binders Γ
   pub filled : Names → List (List ℕ) → Tree → Answer Tree
@@ -96,7 +106,7 @@ abbrev mutual
   filled_binders names Γ no_binder = Ok no_binder
   filled_binders names Γ (binder_and b more) = do
     b' ← filled_binder names Γ b
-    more' ← filled_binders names (Γ ++ binder_name b ∷ []) more
+    more' ← filled_binders names (behind_binder Γ b) more
     Ok (binder_and b' more')
 
   pub filled_statement : Names → List (List ℕ) → Statement → Answer Statement
@@ -116,5 +126,5 @@ abbrev mutual
   filled_statements names Γ no_statement = Ok no_statement
   filled_statements names Γ (statement_and s more) = do
     s' ← filled_statement names Γ s
-    more' ← filled_statements names (Γ ++ bound_by s) more
+    more' ← filled_statements names (behind_statement Γ s) more
     Ok (statement_and s' more')

@@ -1,5 +1,6 @@
 -- A module's text with the targets of its names, or the first fault in text order.
-use Rattle.std.specs.Prelude.{ℕ, suc, ◌+◌, Bool, false, cond, List, [], ◌∷◌, ◌++◌, codes, length, Option, Some, None, Ok}
+use Rattle.std.specs.Prelude.{ℕ, suc, ◌+◌, Bool, false, cond, List, [], ◌∷◌, ◌++◌, codes, length, map, Option, Some, None, Ok}
+use Rattle.std.specs.List.{flat_map}
 use Rattle.qtt_base.specs.declared.place.Span.{Span}
 use Rattle.qtt_syntax.specs.declared.expr.Local.{Local}
 use Rattle.qtt_syntax.specs.Tree.{Tree, Statement, Statements, Shape, Param, Con, Item, Module}
@@ -11,8 +12,10 @@ use Rattle.qtt_syntax.specs.Tree.Con.{con}
 use Rattle.qtt_syntax.specs.Tree.Item.{family, signature, clause}
 use Rattle.qtt_syntax.specs.Tree.Module.{module_text}
 use Rattle.qtt_names.specs.Answer.{Answer, unbound, duplicate, ◌>>=◌}
-use Rattle.qtt_names.specs.Scope.{Scope, OwnItem, same_name}
+use Rattle.qtt_names.specs.declared.scope.OwnItem.{OwnItem}
+use Rattle.qtt_names.specs.Scope.{Scope, same_name}
 use Rattle.qtt_names.specs.Target.{own_item, look_up}
+use Rattle.qtt_names.specs.InTurn.{in_turn}
 use Rattle.qtt_names.specs.Filled.{Names, filled}
 use Rattle.qtt_names.specs.Patterns.{first_of, variables, filled_shape}
 
@@ -77,8 +80,7 @@ abbrev pub param_name : Param → List ℕ
 param_name (param m n t s) = n
 
 abbrev pub param_names : List Param → List (List ℕ)
-param_names [] = []
-param_names (p ∷ more) = param_name p ∷ param_names more
+param_names = map param_name
 
 abbrev pub filled_param : Names → List (List ℕ) → Param → Answer Param
 filled_param names Γ (param m n t s) = do
@@ -87,11 +89,7 @@ filled_param names Γ (param m n t s) = do
 
 -- each parameter stands behind those before it
 abbrev pub filled_params : Names → List (List ℕ) → List Param → Answer (List Param)
-filled_params names Γ [] = Ok []
-filled_params names Γ (p ∷ more) = do
-  p' ← filled_param names Γ p
-  more' ← filled_params names (Γ ++ param_name p ∷ []) more
-  Ok (p' ∷ more')
+filled_params names = in_turn (filled_param names) (λ Γ p. Γ ++ param_name p ∷ [])
 
 -- The type of a family: a chain of binders, for the indices, and an end. An index is counted, but its name is in scope nowhere.
 abbrev pub filled_chain : Names → List (List ℕ) → Tree → Answer Tree
@@ -111,18 +109,15 @@ filled_chain names Γ (letting m n t e b s) = filled names Γ (letting m n t e b
 filled_chain names Γ (doing ss s) = filled names Γ (doing ss s)
 
 -- a constructor as own item k, with its type
-abbrev pub filled_con : Scope → Names → ℕ → List (List ℕ) → Con → Answer Con
-filled_con s names k Γ (con n t span) = do
+abbrev pub filled_con : Scope → Names → List (List ℕ) → ℕ → Con → Answer Con
+filled_con s names Γ k (con n t span) = do
   u ← new_item s k n span
   t' ← filled names Γ t
   Ok (con n t' span)
 
-abbrev pub filled_cons : Scope → Names → ℕ → List (List ℕ) → List Con → Answer (List Con)
-filled_cons s names k Γ [] = Ok []
-filled_cons s names k Γ (c ∷ more) = do
-  c' ← filled_con s names k Γ c
-  more' ← filled_cons s names (suc k) Γ more
-  Ok (c' ∷ more')
+-- constructors, of which the first is own item k
+abbrev pub filled_cons : Scope → Names → List (List ℕ) → ℕ → List Con → Answer (List Con)
+filled_cons s names Γ = in_turn (filled_con s names Γ) (λ k c. suc k)
 
 -- the clause directly before is one of this name
 abbrev pub goes_on : Option (List ℕ) → List ℕ → Bool
@@ -139,15 +134,11 @@ abbrev pub new_clause : Scope → Before → List ℕ → Span → Answer (Unit 
 new_clause s before n span = if_definition (own_item s before.items n) before n span
 
 abbrev pub variables_in : List Shape → List (List ℕ)
-variables_in [] = []
-variables_in (p ∷ more) = variables p ++ variables_in more
+variables_in = flat_map variables
 
+-- each pattern stands behind the variables of those before it
 abbrev pub filled_patterns : Names → List (List ℕ) → List (List ℕ) → List Shape → Answer (List Shape)
-filled_patterns names Γ before [] = Ok []
-filled_patterns names Γ before (p ∷ more) = do
-  p' ← filled_shape names Γ before p
-  more' ← filled_patterns names Γ (before ++ variables p) more
-  Ok (p' ∷ more')
+filled_patterns names Γ = in_turn (filled_shape names Γ) (λ before p. before ++ variables p)
 
 -- An item behind others. A name sees the own items that stand earlier: a constructor's type its family too, and no item sees its own
 -- constructors or its own definition. A hole is the last token of its clause, and so it is looked at last.
@@ -156,7 +147,7 @@ filled_item s before (family n ns ps t cs span) = do
   u ← new_item s before.items n ns
   ps' ← filled_params (look_up s before.items) [] ps
   t' ← filled_chain (look_up s before.items) (param_names ps) t
-  cs' ← filled_cons s (look_up s (suc before.items)) (suc before.items) (param_names ps) cs
+  cs' ← filled_cons s (look_up s (suc before.items)) (param_names ps) (suc before.items) cs
   Ok (family n ns ps' t' cs' span)
 filled_item s before (signature p m n ns t span) = do
   u ← new_item s before.items n ns
@@ -179,11 +170,7 @@ behind before (clause n ps side span) =
     record { items = before.items; clauses = before.clauses ++ n ∷ []; last = Some n; holes = before.holes ++ hole_name (tail_hole side) }
 
 abbrev pub filled_items : Scope → Before → List Item → Answer (List Item)
-filled_items s before [] = Ok []
-filled_items s before (i ∷ more) = do
-  i' ← filled_item s before i
-  more' ← filled_items s (behind before i) more
-  Ok (i' ∷ more')
+filled_items s = in_turn (filled_item s) behind
 
 abbrev pub resolved : Scope → Module → Answer Module
 resolved s (module_text h n ns is items) = do

@@ -5,6 +5,7 @@ use Rattle.std.specs.Map.{lookup}
 use Rattle.std.specs.Cmp.Lexicographic.{pointwise}
 use Rattle.qtt_base.specs.declared.place.GlobalId.{GlobalId}
 use Rattle.qtt_base.specs.declared.place.ModuleId.{ModuleId}
+use Rattle.qtt_names.specs.declared.scope.OwnItem.{OwnItem}
 use Rattle.qtt_syntax.specs.Tree.{Con, Item, Module}
 use Rattle.qtt_syntax.specs.Tree.Con.{con}
 use Rattle.qtt_syntax.specs.Tree.Item.{family, signature, clause}
@@ -13,11 +14,6 @@ use Rattle.qtt_syntax.specs.Tree.Module.{module_text}
 -- two names are the same where their bytes are
 abbrev pub same_name : List ℕ → List ℕ → Bool
 same_name = pointwise nat_eq
-
--- an item of the module itself: its number, and whether it is a definition
-pub record OwnItem : Type 0 where
-  pub number : ℕ
-  pub is_definition : Bool
 
 -- a module that is imported: its name, and its items by their names
 pub record Imported : Type 0 where

@@ -1,2 +1,10 @@
 //! Names: what each used name of a module's text stands for.
 #![tactic(auto)]
+
+mod errors;
+mod expr;
+mod scope;
+mod target;
+
+pub use errors::NamesError;
+pub use scope::Scope;
