@@ -3,3 +3,4 @@ pub mod Steps
 pub mod Parts
 pub mod Looking
 pub mod Dots
+pub mod Shapes

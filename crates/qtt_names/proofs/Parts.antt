@@ -1,12 +1,18 @@
 -- The parts of a tree in turn.
-use Rattle.std.proofs.Common.{◌≡◌, ℕ, List, [], ◌∷◌, ◌++◌, Ok, Err, refl, ap, sym, ◌∙◌, arith, fold, append_assoc, append-nil, take, length}
+use Rattle.std.proofs.Common.{◌≡◌, ℕ, List, [], ◌∷◌, ◌++◌, Ok, Err, refl, ap, sym, ◌∙◌, arith, fold, append_assoc, append-nil, take, length, map, Option, Box, Vec, Global}
 use Rattle.std.specs.List.{flat_map}
 use Rattle.std.proofs.Math.Seq.{take-append_seam}
 use Rattle.std.proofs.lemmas.Grind.{common_steps}
 use Rattle.qtt_base.specs.declared.place.Span.{Span}
 use Rattle.qtt_usage.specs.declared.mult.Mult.{Mult}
 use Rattle.qtt_syntax.specs.declared.expr.Local.{Local}
-use Rattle.qtt_syntax.specs.declared.expr.Expr.{the_lemmas}
+use Rattle.qtt_syntax.specs.declared.expr.Expr.{Expr, the_lemmas}
+use Rattle.qtt_syntax.specs.declared.expr.Expr.TheVariants as code
+use Rattle.qtt_syntax.specs.declared.expr.Argument as argument_code
+use Rattle.qtt_syntax.specs.declared.expr.Binder as binder_code
+use Rattle.qtt_syntax.specs.declared.expr.Statement as statement_code
+use Rattle.qtt_syntax.specs.declared.expr.Statement.TheVariants as step
+use Rattle.qtt_syntax.specs.View.{tree_of, written_type, argument_of, binder_of, statement_of}
 use Rattle.qtt_syntax.specs.Tree.{Tree, Annotation, Argument, Arguments, Binder, Binders, Statement, Statements, arguments, binders, statements}
 use Rattle.qtt_syntax.specs.Tree.Tree.{apply, lambda, letting, doing}
 use Rattle.qtt_syntax.specs.Tree.Statement.{local}
@@ -20,7 +26,7 @@ use Rattle.qtt_names.specs.Filled.{Names, filled, filled_annotation, filled_argu
 use Rattle.qtt_names.proofs.Steps.{ok_then, err_then, in_turn-one_more}
 
 -- a row of parts is that of their list
-turned : {A B : Type 0} (row : List A → B) (and : A → B → B) → ((a : A) (ys : List A) → row (a ∷ ys) ≡ and a (row ys)) → (r : Answer A) (rest : Answer (List A))
+pub turned : {A B : Type 0} (row : List A → B) (and : A → B → B) → ((a : A) (ys : List A) → row (a ∷ ys) ≡ and a (row ys)) → (r : Answer A) (rest : Answer (List A))
     → (r >>= λ a. (rest >>= λ ys. Ok (row ys)) >>= λ m. Ok (and a m)) ≡ ((r >>= λ a. rest >>= λ ys. Ok (a ∷ ys)) >>= λ ys. Ok (row ys))
 unfolding ◌>>=◌
 turned row and cons (Err e) rest = refl
@@ -66,6 +72,26 @@ take_behind_binders Γ xs = ap (take (length Γ)) (behind_binders Γ xs) ∙ tak
 
 pub take_behind_statements : (Γ : List (List ℕ)) (xs : List Statement) → take (length Γ) (fold behind_statement Γ xs) ≡ Γ
 take_behind_statements Γ xs = ap (take (length Γ)) (behind_statements Γ xs) ∙ take-append_seam Γ (flat_map bound_by xs)
+
+-- ---- forms with rows of parts, as the code has them
+pub apply_form : (e : Expr) (f : Box Expr Global) (v : Vec argument_code.Argument Global) (s : Span)
+    → e ≡ code.Apply f v s → tree_of e ≡ apply (tree_of f.value) (arguments (map argument_of v.items)) s
+apply_form e f v s is = ap tree_of is ∙ apply_view f v s
+
+pub lambda_form : (e : Expr) (v : Vec binder_code.Binder Global) (b : Box Expr Global) (s : Span)
+    → e ≡ code.Lambda v b s → tree_of e ≡ lambda (binders (map binder_of v.items)) (tree_of b.value) s
+lambda_form e v b s is = ap tree_of is ∙ lambda_view v b s
+
+pub let_form : (e : Expr) (m : Mult) (n : Local) (t : Option (Box Expr Global)) (v b : Box Expr Global) (s : Span)
+    → e ≡ code.Let m n t v b s → tree_of e ≡ letting m n (written_type t) (tree_of v.value) (tree_of b.value) s
+let_form e m n t v b s is = ap tree_of is ∙ let_view m n t v b s
+
+pub do_form : (e : Expr) (v : Vec statement_code.Statement Global) (s : Span) → e ≡ code.Do v s → tree_of e ≡ doing (statements (map statement_of v.items)) s
+do_form e v s is = ap tree_of is ∙ do_view v s
+
+pub local_form : (e : statement_code.Statement) (m : Mult) (n : Local) (t : Option (Box Expr Global)) (v : Expr) (s : Span)
+    → e ≡ step.Let m n t v s → statement_of e ≡ local m n (written_type t) (tree_of v) s
+local_form e m n t v s is = ap statement_of is ∙ local_view m n t v s
 
 -- ---- forms with rows of parts, whose parts are found
 module _ (names : Names) (Γ : List (List ℕ)) where

@@ -62,3 +62,6 @@ module _ {S A B : Type 0} (each : S → A → Answer B) (next : S → A → S) w
           ≡ (in_turn each next s (map view (take i xs)) >>= λ bs. in_turn each next (fold next s (map view (take i xs))) (view x ∷ map view (drop (i + 1) xs)) >>= λ cs. Ok (bs ++ cs))
   in_turn-at view s xs i x lt here =
       ap (in_turn each next s) (split view xs i x lt here) ∙ in_turn-append s (map view (take i xs)) (view x ∷ map view (drop (i + 1) xs))
+
+-- all that looking up one part after another wants
+pub ruleset steps = (common_steps, ok_then, err_then, in_turn-one_more)

@@ -29,6 +29,10 @@ abbrev mutual
   variables_of no_shape = []
   variables_of (shape_and p more) = variables p ++ variables_of more
 
+-- behind a pattern stand its variables too
+abbrev pub behind_shape : List (List ℕ) → Shape → List (List ℕ)
+behind_shape before p = before ++ variables p
+
 abbrev mutual
   -- A pattern behind these variables of its clause, where Γ are all the clause's variables: they count in each dot pattern. The name
   -- of a constructor is no local one.
@@ -49,5 +53,5 @@ abbrev mutual
   filled_shapes names Γ before no_shape = Ok no_shape
   filled_shapes names Γ before (shape_and p more) = do
     p' ← filled_shape names Γ before p
-    more' ← filled_shapes names Γ (before ++ variables p) more
+    more' ← filled_shapes names Γ (behind_shape before p) more
     Ok (shape_and p' more')

@@ -3,8 +3,11 @@
 
 mod errors;
 mod expr;
+mod module;
+mod pattern;
 mod scope;
 mod target;
 
 pub use errors::NamesError;
+pub use module::resolve;
 pub use scope::Scope;

@@ -39,6 +39,7 @@ impl Found {
 }
 
 /// Looks up names where a number of own items stand earlier.
+#[derive(Clone, Copy)]
 pub(crate) struct Resolver<'a> {
     pub alloc: Global,
     pub scope: &'a Scope,
@@ -114,7 +115,7 @@ impl Scope {
 }
 
 /// A part of a name.
-fn part(alloc: Global, text: &str) -> Result<Name, MemoryError>
+pub(crate) fn part(alloc: Global, text: &str) -> Result<Name, MemoryError>
     ensures { IfOk result (λ n. n ≡ text.now) }
 {
     match Name::new(alloc, text) {

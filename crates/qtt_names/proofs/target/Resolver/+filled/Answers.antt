@@ -1,7 +1,7 @@
 -- The forms with rows of parts, and the parts that stop a row.
 use Rattle.std.proofs.Common.{◌≡◌, ◌∙◌, ap, sym, arith, Ok, map, fold, [], ◌∷◌, ◌++◌}
 use Rattle.std.proofs.lemmas.Grind.{common_steps}
-use Rattle.qtt_syntax.specs.Tree.{arguments, binders, statements}
+use Rattle.qtt_syntax.specs.declared.expr.Local.{Local}
 use Rattle.qtt_syntax.specs.Tree.Tree.{apply, lambda, letting, doing}
 use Rattle.qtt_syntax.specs.Tree.Statement.{local}
 use Rattle.qtt_syntax.specs.View.{tree_of, written_type, argument_of, binder_of, statement_of}
@@ -10,7 +10,7 @@ use Rattle.qtt_names.specs.InTurn.{in_turn}
 use Rattle.qtt_names.specs.Filled.{filled, filled_annotation, filled_argument, filled_binder, filled_statement, unmoved, behind_binder, behind_statement}
 use Rattle.qtt_names.specs.View.{names_of}
 use Rattle.qtt_names.proofs.Steps.{in_turn-at}
-use Rattle.qtt_names.proofs.Parts.{parts, apply_found, lambda_found, let_found, do_found, local_found}
+use Rattle.qtt_names.proofs.Parts.{parts, apply_form, lambda_form, let_form, do_form, local_form, apply_found, lambda_found, let_found, do_found, local_found}
 use Rattle.qtt_names.proofs.target.Resolver.+filled.Goals as goal
 
 -- ---- rows
@@ -34,82 +34,71 @@ statements-returns-in_err-statement-clause-gives t c =
 
 pub expr-returns-in_err-arguments-in-Apply-clause-gives : goal.expr-returns-in_err-arguments-in-Apply-clause-gives
 expr-returns-in_err-arguments-in-Apply-clause-gives t c =
-    let form : tree_of c.args.source.now ≡ apply (tree_of c.in-Apply.function.value) (arguments (map argument_of c.in-Apply.arguments.items)) c.in-Apply.span = ap tree_of c.in-Apply.is ∙ apply_view _ _ _ in
-    rw form (grind (arith, parts))
+    rw (apply_form _ _ _ _ c.in-Apply.is) (grind (arith, parts))
 
 pub expr-returns-in_ok-arguments-in-Apply-clause-gives : goal.expr-returns-in_ok-arguments-in-Apply-clause-gives
 expr-returns-in_ok-arguments-in-Apply-clause-gives t c =
     let names = names_of c.args.self.now in
-    let form : tree_of c.args.source.now ≡ apply (tree_of c.in-Apply.function.value) (arguments (map argument_of c.in-Apply.arguments.items)) c.in-Apply.span = ap tree_of c.in-Apply.is ∙ apply_view _ _ _ in
     let one : filled names c.args.locals.now.items (tree_of c.in-Apply.function.value) ≡ Ok (tree_of c.in_ok-function-in-Apply.function.value) = grind (arith, common_steps) in
     let other : in_turn (filled_argument names) unmoved c.args.locals.now.items (map argument_of c.in-Apply.arguments.items) ≡ Ok (map argument_of c.in_ok-arguments-in-Apply.arguments.items) = grind (arith, common_steps) in
-    ap (filled names c.args.locals.now.items) form ∙ apply_found names _ _ _ _ _ _ one other ∙ ap Ok (sym (apply_view c.in_ok-function-in-Apply.function c.in_ok-arguments-in-Apply.arguments c.in-Apply.span))
+    ap (filled names c.args.locals.now.items) (apply_form _ _ _ _ c.in-Apply.is) ∙ apply_found names _ _ _ _ _ _ one other ∙ ap Ok (sym (apply_view c.in_ok-function-in-Apply.function c.in_ok-arguments-in-Apply.arguments c.in-Apply.span))
 
 -- ---- functions
 
 pub expr-returns-in_err-binders-in-Lambda-clause-gives : goal.expr-returns-in_err-binders-in-Lambda-clause-gives
 expr-returns-in_err-binders-in-Lambda-clause-gives t c =
-    let form : tree_of c.args.source.now ≡ lambda (binders (map binder_of c.in-Lambda.binders.items)) (tree_of c.in-Lambda.body.value) c.in-Lambda.span = ap tree_of c.in-Lambda.is ∙ lambda_view _ _ _ in
-    rw form (grind (arith, parts))
+    rw (lambda_form _ _ _ _ c.in-Lambda.is) (grind (arith, parts))
 
 pub expr-returns-in_err-expr-in-Lambda-clause-gives : goal.expr-returns-in_err-expr-in-Lambda-clause-gives
 expr-returns-in_err-expr-in-Lambda-clause-gives t c =
-    let form : tree_of c.args.source.now ≡ lambda (binders (map binder_of c.in-Lambda.binders.items)) (tree_of c.in-Lambda.body.value) c.in-Lambda.span = ap tree_of c.in-Lambda.is ∙ lambda_view _ _ _ in
-    rw form (grind (arith, parts))
+    rw (lambda_form _ _ _ _ c.in-Lambda.is) (grind (arith, parts))
 
 pub expr-returns-in_ok-body-in-Lambda-clause-gives : goal.expr-returns-in_ok-body-in-Lambda-clause-gives
 expr-returns-in_ok-body-in-Lambda-clause-gives t c =
     let names = names_of c.args.self.now in
-    let form : tree_of c.args.source.now ≡ lambda (binders (map binder_of c.in-Lambda.binders.items)) (tree_of c.in-Lambda.body.value) c.in-Lambda.span = ap tree_of c.in-Lambda.is ∙ lambda_view _ _ _ in
     let one : in_turn (filled_binder names) behind_binder c.args.locals.now.items (map binder_of c.in-Lambda.binders.items) ≡ Ok (map binder_of c.in_ok-binders-in-Lambda.binders.items) = grind (arith, common_steps) in
     let other : filled names (fold behind_binder c.args.locals.now.items (map binder_of c.in-Lambda.binders.items)) (tree_of c.in-Lambda.body.value) ≡ Ok (tree_of c.in_ok-body-in-Lambda.body.value) = grind (arith, common_steps) in
-    ap (filled names c.args.locals.now.items) form ∙ lambda_found names _ _ _ _ _ _ one other ∙ ap Ok (sym (lambda_view c.in_ok-binders-in-Lambda.binders c.in_ok-body-in-Lambda.body c.in-Lambda.span))
+    ap (filled names c.args.locals.now.items) (lambda_form _ _ _ _ c.in-Lambda.is) ∙ lambda_found names _ _ _ _ _ _ one other ∙ ap Ok (sym (lambda_view c.in_ok-binders-in-Lambda.binders c.in_ok-body-in-Lambda.body c.in-Lambda.span))
 
 -- ---- local definitions
 
 pub expr-returns-in_err-expr-in-Let-clause-gives : goal.expr-returns-in_err-expr-in-Let-clause-gives
 expr-returns-in_err-expr-in-Let-clause-gives t c =
-    let form : tree_of c.args.source.now ≡ letting c.in-Let.mult c.in-Let.name (written_type c.in-Let.ty) (tree_of c.in-Let.value.value) (tree_of c.in-Let.body.value) c.in-Let.span = ap tree_of c.in-Let.is ∙ let_view _ _ _ _ _ _ in
-    rw form (grind (arith, parts))
+    rw (let_form _ _ _ _ _ _ _ c.in-Let.is) (grind (arith, parts))
 
 pub expr-returns-in_err-body-in-Let-clause-gives : goal.expr-returns-in_err-body-in-Let-clause-gives
 expr-returns-in_err-body-in-Let-clause-gives t c =
-    let form : tree_of c.args.source.now ≡ letting c.in-Let.mult c.in-Let.name (written_type c.in-Let.ty) (tree_of c.in-Let.value.value) (tree_of c.in-Let.body.value) c.in-Let.span = ap tree_of c.in-Let.is ∙ let_view _ _ _ _ _ _ in
-    rw form (grind (arith, parts))
+    rw (let_form _ _ _ _ _ _ _ c.in-Let.is) (grind (arith, parts))
 
 pub expr-returns-in_ok-copied-in-Let-clause-gives : goal.expr-returns-in_ok-copied-in-Let-clause-gives
 expr-returns-in_ok-copied-in-Let-clause-gives t c =
     let names = names_of c.args.self.now in
-    let form : tree_of c.args.source.now ≡ letting c.in-Let.mult c.in-Let.name (written_type c.in-Let.ty) (tree_of c.in-Let.value.value) (tree_of c.in-Let.body.value) c.in-Let.span = ap tree_of c.in-Let.is ∙ let_view _ _ _ _ _ _ in
     let one : filled_annotation names c.args.locals.now.items (written_type c.in-Let.ty) ≡ Ok (written_type c.in_ok-ty-in-Let.ty) = grind (arith, common_steps) in
     let two : filled names c.args.locals.now.items (tree_of c.in-Let.value.value) ≡ Ok (tree_of c.in_ok-value-in-Let.value.value) = grind (arith, common_steps) in
     let three : filled names (c.args.locals.now.items ++ c.in-Let.name.name ∷ []) (tree_of c.in-Let.body.value) ≡ Ok (tree_of c.in_ok-body-in-Let.body.value) = grind (arith, common_steps) in
     let same : c.in-Let.name ≡ c.in_ok-copied-in-Let.field-0 = sym c.in_ok-copied-in-Let.ensures in
-    ap (filled names c.args.locals.now.items) form ∙ let_found names _ _ _ _ _ _ _ _ _ _ one two three
-    ∙ ap Ok (sym (let_view c.in-Let.mult c.in-Let.name c.in_ok-ty-in-Let.ty c.in_ok-value-in-Let.value c.in_ok-body-in-Let.body c.in-Let.span))
-    ∙ ap (λ n. Ok (letting c.in-Let.mult n _ _ _ _)) same
+    ap (filled names c.args.locals.now.items) (let_form _ _ _ _ _ _ _ c.in-Let.is) ∙ let_found names _ _ _ _ _ _ _ _ _ _ one two three
+    ∙ ap (λ (n : Local). Ok (letting c.in-Let.mult n (written_type c.in_ok-ty-in-Let.ty) (tree_of c.in_ok-value-in-Let.value.value) (tree_of c.in_ok-body-in-Let.body.value) c.in-Let.span)) same
+    ∙ ap Ok (sym (let_view c.in-Let.mult c.in_ok-copied-in-Let.field-0 c.in_ok-ty-in-Let.ty c.in_ok-value-in-Let.value c.in_ok-body-in-Let.body c.in-Let.span))
 
 pub statement-returns-in_ok-copied-in-Let-clause-gives : goal.statement-returns-in_ok-copied-in-Let-clause-gives
 statement-returns-in_ok-copied-in-Let-clause-gives t c =
     let names = names_of c.args.self.now in
-    let form : statement_of c.args.source.now ≡ local c.in-Let.mult c.in-Let.name (written_type c.in-Let.ty) (tree_of c.in-Let.value) c.in-Let.span = ap statement_of c.in-Let.is ∙ local_view _ _ _ _ _ in
     let one : filled_annotation names c.args.locals.now.items (written_type c.in-Let.ty) ≡ Ok (written_type c.in_ok-ty-in-Let.ty) = grind (arith, common_steps) in
     let two : filled names c.args.locals.now.items (tree_of c.in-Let.value) ≡ Ok (tree_of c.in_ok-value-in-Let.value) = grind (arith, common_steps) in
     let same : c.in-Let.name ≡ c.in_ok-copied-in-Let.field-0 = sym c.in_ok-copied-in-Let.ensures in
-    ap (filled_statement names c.args.locals.now.items) form ∙ local_found names _ _ _ _ _ _ _ _ one two
-    ∙ ap Ok (sym (local_view c.in-Let.mult c.in-Let.name c.in_ok-ty-in-Let.ty c.in_ok-value-in-Let.value c.in-Let.span))
-    ∙ ap (λ n. Ok (local c.in-Let.mult n _ _ _)) same
+    ap (filled_statement names c.args.locals.now.items) (local_form _ _ _ _ _ _ c.in-Let.is) ∙ local_found names _ _ _ _ _ _ _ _ one two
+    ∙ ap (λ (n : Local). Ok (local c.in-Let.mult n (written_type c.in_ok-ty-in-Let.ty) (tree_of c.in_ok-value-in-Let.value) c.in-Let.span)) same
+    ∙ ap Ok (sym (local_view c.in-Let.mult c.in_ok-copied-in-Let.field-0 c.in_ok-ty-in-Let.ty c.in_ok-value-in-Let.value c.in-Let.span))
 
 -- ---- `do`
 
 pub expr-returns-in_err-statements-in-Do-clause-gives : goal.expr-returns-in_err-statements-in-Do-clause-gives
 expr-returns-in_err-statements-in-Do-clause-gives t c =
-    let form : tree_of c.args.source.now ≡ doing (statements (map statement_of c.in-Do.statements.items)) c.in-Do.span = ap tree_of c.in-Do.is ∙ do_view _ _ in
-    rw form (grind (arith, parts))
+    rw (do_form _ _ _ c.in-Do.is) (grind (arith, parts))
 
 pub expr-returns-in_ok-statements-in-Do-clause-gives : goal.expr-returns-in_ok-statements-in-Do-clause-gives
 expr-returns-in_ok-statements-in-Do-clause-gives t c =
     let names = names_of c.args.self.now in
-    let form : tree_of c.args.source.now ≡ doing (statements (map statement_of c.in-Do.statements.items)) c.in-Do.span = ap tree_of c.in-Do.is ∙ do_view _ _ in
     let one : in_turn (filled_statement names) behind_statement c.args.locals.now.items (map statement_of c.in-Do.statements.items) ≡ Ok (map statement_of c.in_ok-statements-in-Do.statements.items) = grind (arith, common_steps) in
-    ap (filled names c.args.locals.now.items) form ∙ do_found names _ _ _ _ one ∙ ap Ok (sym (do_view c.in_ok-statements-in-Do.statements c.in-Do.span))
+    ap (filled names c.args.locals.now.items) (do_form _ _ _ c.in-Do.is) ∙ do_found names _ _ _ _ one ∙ ap Ok (sym (do_view c.in_ok-statements-in-Do.statements c.in-Do.span))
