@@ -4,3 +4,4 @@ pub mod Parts
 pub mod Looking
 pub mod Dots
 pub mod Shapes
+pub mod Holes

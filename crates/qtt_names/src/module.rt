@@ -1,7 +1,8 @@
 //! Items and modules with the targets of their names.
 
 ghost use Rattle.std.specs.Prelude.{◌≡◌, ◌+◌, ◌++◌, map, fold, IfOk, OnOk};
-ghost use Rattle.qtt_syntax.specs.View.{tree_of, shape_of, param_of, con_of, item_of, module_of};
+ghost use Rattle.qtt_syntax.specs.View.{tree_of, statement_of, shape_of, param_of, con_of, item_of, module_of};
+ghost use Rattle.qtt_syntax.specs.Tree.{statements};
 ghost use Rattle.qtt_names.specs.Target.{own_item};
 ghost use Rattle.qtt_names.specs.Resolved as meaning;
 ghost use Rattle.qtt_names.specs.View.{Gives, scope as scope_seen, names_of, param_list, con_list, family_item, signature_item, clause_item, item_list, unchanged, hole_of};
@@ -31,17 +32,36 @@ fn more(number: u32, by: usize) -> Result<u32, MemoryError>
 }
 
 /// The hole in tail position.
+#[cycle(holes)]
 fn tail_hole(source: &Expr) -> Option<(&Name, Span)>
     ensures { hole_of result ≡ meaning.tail_hole (tree_of source.now) }
 {
     match source {
         Expr::Hole { name, span } => Some((name, *span)),
         Expr::Lambda { body, .. } | Expr::Let { body, .. } => tail_hole(body),
-        Expr::Do { statements, .. } => match statements.last() {
-            Some(Statement::Run { value, .. }) => tail_hole(value),
-            _ => None,
-        },
+        Expr::Do { statements, .. } => last_hole(statements),
         _ => None,
+    }
+}
+
+/// The hole in the last statement.
+#[cycle(holes)]
+fn last_hole(source: &[Statement]) -> Option<(&Name, Span)>
+    ensures { hole_of result ≡ meaning.last_hole (statements (map statement_of source.now)) }
+{
+    match source.last() {
+        Some(last) => statement_hole(last),
+        None => None,
+    }
+}
+
+#[cycle(holes)]
+fn statement_hole(source: &Statement) -> Option<(&Name, Span)>
+    ensures { hole_of result ≡ meaning.statement_hole (statement_of source.now) }
+{
+    match source {
+        Statement::Run { value, .. } => tail_hole(value),
+        Statement::Bind { .. } | Statement::Let { .. } => None,
     }
 }
 

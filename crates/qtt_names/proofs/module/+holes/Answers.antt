@@ -1,0 +1,10 @@
+-- The hole of a `do` is that of its last statement.
+use Rattle.std.proofs.Common.{ap, sym, ◌∙◌, arith}
+use Rattle.std.proofs.lemmas.Grind.{common_steps}
+use Rattle.qtt_names.specs.Resolved.{tail_hole}
+use Rattle.qtt_names.proofs.Parts.{do_form}
+use Rattle.qtt_names.proofs.Holes.{hole_at, last_hole-statements}
+use Rattle.qtt_names.proofs.module.+holes.Goals as goal
+
+pub tail_hole-returns-in-Do : goal.tail_hole-returns-in-Do
+tail_hole-returns-in-Do t c = ?
