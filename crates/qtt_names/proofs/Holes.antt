@@ -6,12 +6,11 @@ use Rattle.qtt_syntax.specs.Tree.{statements}
 use Rattle.qtt_syntax.specs.View.{statement_of}
 use Rattle.qtt_names.specs.Resolved.{last_hole, statement_hole}
 
-pub hole_at : Option Statement → Option Local
+abbrev pub hole_at : Option Statement → Option Local
 hole_at None = None
 hole_at (Some s) = statement_hole (statement_of s)
 
 pub last_hole-statements : (xs : List Statement) → last_hole (statements (map statement_of xs)) ≡ hole_at (slice_get xs (length xs - 1))
-unfolding hole_at
 last_hole-statements [] = refl
 last_hole-statements (x ∷ []) = refl
 last_hole-statements (x ∷ y ∷ more) =

@@ -5,3 +5,5 @@ pub mod Looking
 pub mod Dots
 pub mod Shapes
 pub mod Holes
+pub mod Passing
+pub mod Members

@@ -177,7 +177,7 @@ impl Resolver<'_> {
     }
 
     /// A family that is the next own item.
-    #[tactic(auto, using(crate::proofs::Steps::steps))]
+    #[tactic(auto, using(crate::proofs::Members::members))]
     fn family(&self, source: &FamilyDecl) -> Result<FamilyDecl, NamesError>
         ensures { Gives family_item result (meaning.filled_family (scope_seen self.now.scope.now) self.now.items source.now.name source.now.name_span (map param_of source.now.params.items) (tree_of source.now.ty) (map con_of source.now.constructors.items) source.now.span) }
     {
