@@ -1,2 +1,5 @@
 pub mod Tree
 pub mod View
+pub mod Words
+pub mod Printing
+pub mod Writing
