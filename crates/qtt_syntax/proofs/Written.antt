@@ -3,11 +3,15 @@ use Rattle.std.proofs.Common.{◌≡◌, ℕ, zero, suc, ◌+◌, ◌<◌, ◌�
 use Rattle.std.proofs.lemmas.List.{append-nil}
 use Rattle.std.proofs.Math.Seq.{take-length}
 use Rattle.qtt_syntax.specs.Words.{Printed, written, written_as}
-use Rattle.qtt_syntax.specs.Tree.{Tree, Statements}
+use Rattle.qtt_syntax.specs.Tree.{Tree, Statements, Shape, Param, Con, Item, shapes}
+use Rattle.qtt_syntax.specs.Tree.Shape.{constructor}
+use Rattle.qtt_syntax.specs.Tree.Item.{family}
+use Rattle.qtt_syntax.specs.declared.expr.Named.{Named}
+use Rattle.qtt_base.specs.declared.place.Span.{Span}
 use Rattle.qtt_syntax.specs.Tree.Statements.{no_statement, statement_and}
 use Rattle.qtt_syntax.specs.Words.Printed.{word, blank}
-use Rattle.qtt_syntax.specs.Words.Word.{type_at}
-use Rattle.qtt_syntax.specs.Printing.{atom, bracketed, is_atom, is_level_0, is_arrow, is_app, domain, in_brackets, binding, braced, begins_negative, broken, ends_open, key, let_name, let_head, parted, statement, statements, more_statements}
+use Rattle.qtt_syntax.specs.Words.Word.{type_at, named}
+use Rattle.qtt_syntax.specs.Printing.{atom, bracketed, is_atom, is_level_0, is_arrow, is_app, domain, in_brackets, binding, braced, begins_negative, broken, ends_open, key, let_name, let_head, parted, statement, statements, more_statements, pattern, patterns, con_words, params, cons, more_cons, expr, item}
 use Rattle.qtt_syntax.specs.declared.expr.Mark.{Mark}
 use Rattle.qtt_syntax.specs.declared.expr.Mark.TheVariants.{Written, Braced, Inserted}
 use Rattle.qtt_usage.specs.declared.mult.Mult.{Mult}
@@ -96,3 +100,25 @@ more_written c (statement_and s more) = refl
 
 pub first_statement : (c : ℕ) (ss : Statements) (ws : List Printed) → written (ws ++ more_statements c ss) ≡ written ws ++ written (statements c ss)
 first_statement c ss ws = written-append ws (more_statements c ss) ∙ ap (λ (v : List ℕ). written ws ++ v) (more_written c ss)
+
+pub more_cons_written : (cs : List Con) → written (more_cons cs) ≡ written (cons cs)
+more_cons_written [] = refl
+more_cons_written (k ∷ more) = refl
+
+pub first_con : (cs : List Con) (ws : List Printed) → written (ws ++ more_cons cs) ≡ written ws ++ written (cons cs)
+first_con cs ws = written-append ws (more_cons cs) ∙ ap (λ (v : List ℕ). written ws ++ v) (more_cons_written cs)
+
+-- ---- patterns
+
+pub bare_pattern : (k : Mark) (h : Named) (ps : List Shape) (s : Span) → length ps ≡ 0 → pattern (constructor k h (shapes ps) s) ≡ word (named h.path) ∷ []
+bare_pattern k h [] s e = refl
+bare_pattern k h (p ∷ ps) s e = absurd (omega arith)
+
+pub full_pattern : (k : Mark) (h : Named) (ps : List Shape) (s : Span) → (length ps ≡ 0 → ⊥) → pattern (constructor k h (shapes ps) s) ≡ in_brackets (word (named h.path) ∷ patterns (shapes ps))
+full_pattern k h [] s e = absurd (e refl)
+full_pattern k h (p ∷ ps) s e = refl
+
+-- ---- items
+
+pub family_grows : (n : List ℕ) (ns : Span) (ps : List Param) (t : Tree) (cs : List Con) (sp : Span) (o p q r s u v w : List ℕ) → p ≡ o ++ codes "data " → q ≡ p ++ n → r ≡ q ++ written (params ps) → s ≡ r ++ codes " : " → u ≡ s ++ written (expr 0 t) → v ≡ u ++ written (parted 0 (ends_open t)) → w ≡ v ++ codes "where" → w ++ written (cons cs) ≡ o ++ written (item (family n ns ps t cs sp))
+family_grows n ns ps t cs sp o p q r s u v w e f g h i j k = rw (k, j, i, h, g, f, e) (simp (append_assoc, written-append, append-nil))

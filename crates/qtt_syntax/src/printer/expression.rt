@@ -56,11 +56,22 @@ pub fn put_expr(out: &mut Vec<u8>, blanks: usize, tree: &Expr) -> Result<(), Mem
             put(out, b" ")?;
             put_atom(out, blanks, value, false)
         }
-        Expr::Apply { function, arguments, .. } => {
+        Expr::Apply {
+            function,
+            arguments,
+            ..
+        } => {
             put_atom(out, blanks, function, number_first(arguments))?;
             put_arguments(out, blanks, arguments)
         }
-        Expr::Pi { mark, mult, name, domain, codomain, .. } => {
+        Expr::Pi {
+            mark,
+            mult,
+            name,
+            domain,
+            codomain,
+            ..
+        } => {
             put_domain(out, blanks, domain, *mark, *mult, name)?;
             put(out, b" -> ")?;
             put_expr(out, blanks, codomain)
@@ -71,7 +82,14 @@ pub fn put_expr(out: &mut Vec<u8>, blanks: usize, tree: &Expr) -> Result<(), Mem
             put(out, b"=> ")?;
             put_expr(out, blanks, body)
         }
-        Expr::Let { mult, name, ty, value, body, .. } => {
+        Expr::Let {
+            mult,
+            name,
+            ty,
+            value,
+            body,
+            ..
+        } => {
             put_let(out, *mult, &name.name)?;
             put_annotation(out, blanks, ty)?;
             put_parted(out, blanks, annotation_open(ty))?;
@@ -93,7 +111,12 @@ pub fn put_expr(out: &mut Vec<u8>, blanks: usize, tree: &Expr) -> Result<(), Mem
 
 /// An atom; `number_follows` says that a number stands behind it.
 #[cycle(printing)]
-fn put_atom(out: &mut Vec<u8>, blanks: usize, tree: &Expr, number_follows: bool) -> Result<(), MemoryError>
+fn put_atom(
+    out: &mut Vec<u8>,
+    blanks: usize,
+    tree: &Expr,
+    number_follows: bool,
+) -> Result<(), MemoryError>
     ensures { OnOk result (Adds out.old out.new (text.atom number_follows (tree_of tree.now) (text.expr blanks (tree_of tree.now)))) }
 {
     if number_follows && is_level_0(tree) {
@@ -109,7 +132,14 @@ fn put_atom(out: &mut Vec<u8>, blanks: usize, tree: &Expr, number_follows: bool)
 
 /// What stands before an arrow.
 #[cycle(printing)]
-fn put_domain(out: &mut Vec<u8>, blanks: usize, tree: &Expr, mark: Mark, mult: Mult, name: &Name) -> Result<(), MemoryError>
+fn put_domain(
+    out: &mut Vec<u8>,
+    blanks: usize,
+    tree: &Expr,
+    mark: Mark,
+    mult: Mult,
+    name: &Name,
+) -> Result<(), MemoryError>
     ensures { OnOk result (Adds out.old out.new (text.domain blanks mark mult name.now (tree_of tree.now) (text.expr blanks (tree_of tree.now)))) }
 {
     if is_arrow(mark, mult, name) {
@@ -139,7 +169,11 @@ fn put_domain(out: &mut Vec<u8>, blanks: usize, tree: &Expr, mark: Mark, mult: M
 
 /// A type that may be written, behind ` : `.
 #[cycle(printing)]
-fn put_annotation(out: &mut Vec<u8>, blanks: usize, ty: &Option<Box<Expr>>) -> Result<(), MemoryError>
+fn put_annotation(
+    out: &mut Vec<u8>,
+    blanks: usize,
+    ty: &Option<Box<Expr>>,
+) -> Result<(), MemoryError>
     ensures { OnOk result (Adds out.old out.new (text.annotation blanks (written_type ty.now))) }
 {
     match ty {
@@ -164,7 +198,12 @@ fn put_arguments(out: &mut Vec<u8>, blanks: usize, list: &[Argument]) -> Result<
 }
 
 #[cycle(printing)]
-fn put_argument(out: &mut Vec<u8>, blanks: usize, argument: &Argument, number_follows: bool) -> Result<(), MemoryError>
+fn put_argument(
+    out: &mut Vec<u8>,
+    blanks: usize,
+    argument: &Argument,
+    number_follows: bool,
+) -> Result<(), MemoryError>
     ensures { OnOk result (Adds out.old out.new (text.argument_words blanks number_follows (argument_of argument.now))) }
 {
     match argument {
@@ -223,7 +262,13 @@ fn put_statement(out: &mut Vec<u8>, blanks: usize, statement: &Statement) -> Res
             put(out, b" <- ")?;
             put_expr(out, blanks, value)
         }
-        Statement::Let { mult, name, ty, value, .. } => {
+        Statement::Let {
+            mult,
+            name,
+            ty,
+            value,
+            ..
+        } => {
             put_let(out, *mult, &name.name)?;
             put_annotation(out, blanks, ty)?;
             put_parted(out, blanks, annotation_open(ty))?;

@@ -104,7 +104,13 @@ pub fn begins_negative(tree: &Expr) -> bool
     ensures { result ≡ begins_negative (tree_of tree.now) }
 {
     match tree {
-        Expr::Pi { mark, mult, name, domain, .. } => is_arrow(*mark, *mult, name) && app_negative(domain),
+        Expr::Pi {
+            mark,
+            mult,
+            name,
+            domain,
+            ..
+        } => is_arrow(*mark, *mult, name) && app_negative(domain),
         _ => app_negative(tree),
     }
 }

@@ -18,8 +18,14 @@ fn put_pattern(out: &mut Vec<u8>, shape: &Pattern) -> Result<(), MemoryError>
     match shape {
         Pattern::Variable { name, .. } => put_name(out, name),
         Pattern::Wildcard { .. } => put(out, b"_"),
-        Pattern::Constructor { head, arguments, .. } if arguments.is_empty() => put_name(out, &head.path),
-        Pattern::Constructor { head, arguments, .. } => {
+        Pattern::Constructor {
+            head,
+            arguments,
+            ..
+        } => {
+            if arguments.is_empty() {
+                return put_name(out, &head.path);
+            }
             put(out, b"(")?;
             put_name(out, &head.path)?;
             put_patterns(out, arguments)?;

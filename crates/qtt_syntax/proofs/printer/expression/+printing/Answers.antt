@@ -20,9 +20,10 @@ put_argument-returns-in_ok-put_broken-in-Braced t c =
     let t = tree_of c.in-Braced.tree in
     let shown : argument_words c.args.blanks c.args.number_follows (argument_of c.args.argument.now) ≡ braced c.args.blanks t (expr c.args.blanks t) = elim c.in-Braced.is [ inl e ↦ rw e refl | inr e ↦ rw e refl ] in
     let leads : c.if-begins_negative.out.items ≡ c.put.new.out.items ++ written (lead (begins_negative t)) =
-        elim c.if-begins_negative.branch [
-          put_argument-then-begins_negative+in_ok-put-in-Braced-2 w ↦ lead_grows (begins_negative t) c.put.new.out.items c.if-begins_negative.out.items (inl (sym c.begins_negative.ensures ∙ w.if-begins_negative.true, rw w.out-is w.in_ok-put-in-Braced-2.ensures))
-        | put_argument-else-begins_negative w ↦ lead_grows (begins_negative t) c.put.new.out.items c.if-begins_negative.out.items (inr (sym c.begins_negative.ensures ∙ w.if-begins_negative.false, rw w.out-is refl)) ] in
+    elim c.if-begins_negative.branch [
+      | put_argument-then-begins_negative+in_ok-put-in-Braced-2 w ↦ lead_grows (begins_negative t) c.put.new.out.items c.if-begins_negative.out.items (inl (sym c.begins_negative.ensures ∙ w.if-begins_negative.true, rw w.out-is w.in_ok-put-in-Braced-2.ensures))
+      | put_argument-else-begins_negative w ↦ lead_grows (begins_negative t) c.put.new.out.items c.if-begins_negative.out.items (inr (sym c.begins_negative.ensures ∙ w.if-begins_negative.false, rw w.out-is refl))
+    ] in
     let breaks = simp c.ends_open.ensures at c.in_ok-put_broken-in-Braced.ensures in
     rw shown (rw (braced_grows c.args.blanks t (expr c.args.blanks t) c.args.out.now.items c.put.new.out.items c.if-begins_negative.out.items c.put_expr.new.out.items c.put_broken.new.out.items c.in_ok-put-in-Braced.ensures leads c.in_ok-put_expr-in-Braced.ensures breaks) at c.put-in-Braced.ensures)
 
@@ -51,9 +52,10 @@ put_binders-loop-binder-preserved t c =
     let x = c.binder-item.result in
     let first = binder at (binder_of x) in
     let one : c.match-binder.out.items ≡ c.loop-binder.out.items ++ written first =
-        elim c.match-binder.branch [
-          put_binders-in-Plain+in_ok-put_name-in-Plain w ↦ rw (w.out-is, w.in-Plain.is) (simp append-nil w.in_ok-put_name-in-Plain.ensures)
-        | put_binders-in-Typed+in_ok-put-in-Typed+in_ok-put_binding-in-Typed+in_ok-put_expr-in-Typed+in_ok-put-in-Typed-2 w ↦ rw (w.out-is, w.in-Typed.is) (simp (append_assoc, written-append) (simp (w.in_ok-put_expr-in-Typed.ensures, w.in_ok-put_binding-in-Typed.ensures, w.in_ok-put-in-Typed.ensures, append_assoc, written-append) at w.in_ok-put-in-Typed-2.ensures)) ] in
+    elim c.match-binder.branch [
+      | put_binders-in-Plain+in_ok-put_name-in-Plain w ↦ rw (w.out-is, w.in-Plain.is) (simp append-nil w.in_ok-put_name-in-Plain.ensures)
+      | put_binders-in-Typed+in_ok-put-in-Typed+in_ok-put_binding-in-Typed+in_ok-put_expr-in-Typed+in_ok-put-in-Typed-2 w ↦ rw (w.out-is, w.in-Typed.is) (simp (append_assoc, written-append) (simp (w.in_ok-put_expr-in-Typed.ensures, w.in_ok-put_binding-in-Typed.ensures, w.in_ok-put-in-Typed.ensures, append_assoc, written-append) at w.in_ok-put-in-Typed-2.ensures))
+    ] in
     let grows : c.put-in-loop-binder.new.out.items ≡ c.loop-binder.out.items ++ (written first ++ 32 ∷ []) = c.in_ok-put.ensures ∙ ap (λ (v : List ℕ). v ++ 32 ∷ []) one ∙ append_assoc c.loop-binder.out.items (written first) (32 ∷ []) in
     let step = written-append first (blank ∷ binders at (tree.binders (map binder_of rest))) ∙ sym (append_assoc (written first) (32 ∷ []) (written (binders at (tree.binders (map binder_of rest))))) in
     one_more (λ xs. written (binders at (tree.binders (map binder_of xs)))) c.args.list.now c.loop-binder.binder-index x c.args.out.now.items c.loop-binder.out.items c.put-in-loop-binder.new.out.items (written first ++ 32 ∷ []) c.loop-binder-test.true c.binder-item.is step c.loop-binder.invariant grows
@@ -99,7 +101,7 @@ put_expr-returns-in_ok-put-in-Let-2 t c =
     let first = simp (c.in_ok-put-in-Let.ensures, c.deref-in-Let.ensures) at c.in_ok-put_expr-in-Let.ensures in
     let parts = simp c.annotation_open.ensures at c.in_ok-put_parted-in-Let.ensures in
     let head : c.put_expr-in-Let.new.out.items ≡ c.args.out.now.items ++ written (let_head at c.in-Let.mult c.in-Let.name.name (annotation_open ty) (annotation at ty) (expr at value)) =
-        first ∙ let_head_grows at c.in-Let.mult c.in-Let.name.name (annotation_open ty) (annotation at ty) (expr at value) c.args.out.now.items c.put_let.new.out.items c.put_annotation.new.out.items c.put_parted.new.out.items c.in_ok-put_let-in-Let.ensures c.in_ok-put_annotation-in-Let.ensures parts in
+    first ∙ let_head_grows at c.in-Let.mult c.in-Let.name.name (annotation_open ty) (annotation at ty) (expr at value) c.args.out.now.items c.put_let.new.out.items c.put_annotation.new.out.items c.put_parted.new.out.items c.in_ok-put_let-in-Let.ensures c.in_ok-put_annotation-in-Let.ensures parts in
     let breaks = simp (c.ends_open.ensures, c.deref-in-Let-2.ensures) at c.in_ok-put_parted-in-Let-2.ensures in
     let last = simp (c.in_ok-put-in-Let-2.ensures, c.deref-in-Let-3.ensures) at c.put_expr-in-Let-2.ensures in
     rw view (rw (let_grows at (ends_open value) (let_head at c.in-Let.mult c.in-Let.name.name (annotation_open ty) (annotation at ty) (expr at value)) (expr at (tree_of c.in-Let.body.value)) c.args.out.now.items c.put_expr-in-Let.new.out.items c.put_parted-in-Let.new.out.items head breaks) at last)
