@@ -6,3 +6,6 @@ pub mod Choices
 pub mod Inners
 pub mod Items
 pub mod Texts
+pub mod Prints
+pub mod Saying
+pub mod Formed
