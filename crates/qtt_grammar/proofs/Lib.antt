@@ -9,3 +9,6 @@ pub mod Texts
 pub mod Prints
 pub mod Saying
 pub mod Formed
+pub mod Tokens
+pub mod Forms
+pub mod Shown

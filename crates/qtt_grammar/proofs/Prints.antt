@@ -1,5 +1,5 @@
 -- Words that a phrase says, wherever they stand.
-use Rattle.std.proofs.Common.{◌≡◌, Bool, true, false, List, [], ◌∷◌, ◌++◌, map, Option, Some, None, refl, sym, ap, ◌∙◌, inl, inr, ◌⊎◌}
+use Rattle.std.proofs.Common.{◌≡◌, Bool, true, false, List, [], ◌∷◌, ◌++◌, map, Option, Some, None, refl, sym, ap, ◌∙◌, append_assoc, inl, inr, ◌⊎◌}
 use Rattle.qtt_base.specs.declared.place.Span.{Span}
 use Rattle.qtt_phrase.specs.Phrase.{Weighed, Token, Chain, ◌then◌, Making, ◌or◌, Many, Run, Perhaps, Placed, first}
 use Rattle.qtt_grammar.specs.declared.class.Class.{Class}
@@ -120,3 +120,20 @@ placed_at P R w ws (x ∷ ls) e a p r = ((x.place, a), (x, ls, refl, refl, p), r
 -- a phrase with the place of its first token
 pub placed : {A : Type 0} {P : Says A} {R : A → Type 0} {w : Lexeme} {ws : List Lexeme} → Prints P (w ∷ ws) R → Prints (Placed place P) (w ∷ ws) (λ c. R c.1)
 placed {P} {R} {w} {ws} p = record { at = λ ls e. let a = p.at ls e in placed_at P R w ws ls e a.0 a.1 a.2 }
+
+first_none : {F : Type 0} (p q : Option F) → first p q ≡ None → (p ≡ None) × (q ≡ None)
+first_none None q e = (refl, e)
+first_none (Some f) q e = absurd cc
+
+then_more : {A B : Type 0} (P : Says A) (Q : Says B) (front back ls : List Lexeme) (a : A) (c : List A × B) → ls ≡ front ++ back → P front a None → (Many P then Q) back c None → (Many P then Q) ls (a ∷ c.0, c.1) None
+then_more P Q front back ls a c parts m (ws, xs, o, q, apart, n, k, none) =
+    let both = first_none o q none in
+    (front ++ ws, xs, o, q, parts ∙ ap (λ (v : List Lexeme). front ++ v) apart ∙ sym (append_assoc front ws xs), (front, ws, None, o, refl, m, n, refl), k, none)
+
+-- one more of the many that stand before another phrase
+pub many_then_more : {A B : Type 0} {R : A → Type 0} {us vs : List Lexeme} (P : Says A) (Q : Says B) (S T : List A × B → Type 0) → Prints P us R → Prints (Many P then Q) vs S → ((a : A) (c : List A × B) → R a → S c → T (a ∷ c.0, c.1)) → Prints (Many P then Q) (us ++ vs) T
+many_then_more {us} {vs} P Q S T p q f = record { at = λ ls e.
+    let s = split us vs ls e in
+    let a = p.at s.front s.left in
+    let b = q.at s.back s.right in
+    ((a.0 ∷ b.0.0, b.0.1), then_more P Q s.front s.back ls a.0 b.0 s.parts a.1 b.1, f a.0 b.0 a.2 b.2) }
