@@ -12,3 +12,5 @@ pub mod Formed
 pub mod Tokens
 pub mod Forms
 pub mod Shown
+pub mod Gives
+pub mod Allowed
