@@ -14,3 +14,4 @@ pub mod Forms
 pub mod Shown
 pub mod Gives
 pub mod Allowed
+pub mod ShownPatterns
