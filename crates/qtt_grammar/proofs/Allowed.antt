@@ -79,24 +79,24 @@ excess_nowhere_case : {F : Type 0} (b : Bool) (f g : F) → cond b (Some f) None
 excess_nowhere_case true f g e = absurd cc
 excess_nowhere_case false f g e = refl
 
-plain_case : (b : Bool) → (b ≡ true → false ≡ true) → b ≡ false
+pub plain_case : (b : Bool) → (b ≡ true → false ≡ true) → b ≡ false
 plain_case true h = absurd (let e = h refl in cc)
 plain_case false h = refl
 
 module _ (Fit : Word → Type 0) (wild : Fit (Word.named (codes "_"))) (pass : Pass) where
-  abbrev Fair : Lexeme → Type 0
+  abbrev pub Fair : Lexeme → Type 0
   Fair = IsFair Fit
 
-  abbrev Holds : {A : Type 0} → Says A → (A → Type 0) → Type 0
+  abbrev pub Holds : {A : Type 0} → Says A → (A → Type 0) → Type 0
   Holds P R = Gives Fair P R
 
-  abbrev Formed : Tree → Type 0
+  abbrev pub Formed : Tree → Type 0
   Formed = formed.Formed Fit pass
 
-  abbrev Plain : Tree → Type 0
+  abbrev pub Plain : Tree → Type 0
   Plain = formed.Plain Fit pass
 
-  abbrev Named : (Class → Bool) → List ℕ → Type 0
+  abbrev pub Named : (Class → Bool) → List ℕ → Type 0
   Named = formed.Named Fit pass
 
   -- an expression, in tail position or not, that takes at most so many levels
@@ -113,18 +113,18 @@ module _ (Fit : Word → Type 0) (wild : Fit (Word.named (codes "_"))) (pass : P
   abbrev Applied : ℕ → Tree → Type 0
   Applied l t = Formed t × (Plain t × (wrapped_need (is_app t) (need t) ≤ l))
 
-  plain_of : (l : ℕ) (t : Tree) → Inside false l t → Plain t
+  pub plain_of : (l : ℕ) (t : Tree) → Inside false l t → Plain t
   plain_of l t i = plain_case (ends_in_hole t) i.1.0
 
   -- ---- tokens
 
-  symbol : (is : Class → Bool) → Holds (Symbol is) (λ s. Unit {0})
+  pub symbol : (is : Class → Bool) → Holds (Symbol is) (λ s. Unit {0})
   symbol is = token_gives (of is) place (λ x f e. tt)
 
-  named_token : (is : Class → Bool) → Among (of is) (of is_bound_or_name) → Holds (Token (of is) named_of) (λ n. (n.target ≡ Unknown) × Named is n.path)
+  pub named_token : (is : Class → Bool) → Among (of is) (of is_bound_or_name) → Holds (Token (of is) named_of) (λ n. (n.target ≡ Unknown) × Named is n.path)
   named_token is sub = token_gives (of is) named_of (λ x f e. let g = f.named (sub x e) in (refl, (ap is g.0 ∙ e, g.1)))
 
-  locally : (is : Class → Bool) → Among (of is) (of is_bound_or_name) → Holds (Locally is) (λ n. Named is n.name)
+  pub locally : (is : Class → Bool) → Among (of is) (of is_bound_or_name) → Holds (Locally is) (λ n. Named is n.name)
   locally is sub = token_gives (of is) local_of (λ x f e. let g = f.named (sub x e) in (ap is g.0 ∙ e, g.1))
 
   any_mark : Holds IsMark (λ m. Unit {0})
@@ -133,10 +133,10 @@ module _ (Fit : Word → Type 0) (wild : Fit (Word.named (codes "_"))) (pass : P
   bname_named : Among (of is_bname) (of is_bound_or_name)
   bname_named = among is_bname is_bound_or_name refl
 
-  name_named : Among (of is_name) (of is_bound_or_name)
+  pub name_named : Among (of is_name) (of is_bound_or_name)
   name_named = among is_name is_bound_or_name refl
 
-  simple_named : Among (of is_simple) (of is_bound_or_name)
+  pub simple_named : Among (of is_simple) (of is_bound_or_name)
   simple_named = among is_simple is_bound_or_name refl
 
   word_formed : (c : Class) (x : Lexeme) (l : ℕ) → x.class ≡ c → is_word c ≡ true → word_excess pass c x ≡ None → Fair x → Atomic l (word_of c x)
@@ -206,7 +206,7 @@ module _ (Fit : Word → Type 0) (wild : Fit (Word.named (codes "_"))) (pass : P
   pi_fits tail l (plain n) r u f i = (i.0, ((λ e. absurd (let p = plain_of l u i in cc)), omega (arith, i.1.1)))
   pi_fits tail l (typed_binder m n t s) r u f i = ((f.0.0, (f.0.1, (i.0, plain_of l u i))), ((λ e. absurd cc), omega (arith, domain_most (is_unnamed Written m n.name) (is_app t) (need t) l f.1, i.1.1)))
 
-  zero_of : (c : Class) → is_zero c ≡ true → mult_of c ≡ mult.Zero
+  pub zero_of : (c : Class) → is_zero c ≡ true → mult_of c ≡ mult.Zero
   zero_of class.Zero e = refl
   zero_of _ e = absurd cc
 
@@ -234,10 +234,10 @@ module _ (Fit : Word → Type 0) (wild : Fit (Word.named (codes "_"))) (pass : P
   pattern_formed _ x l e w f = absurd cc
 
   -- patterns, each below the count
-  abbrev Parts_hold : ℕ → ℕ → Shape → Type 0
+  abbrev pub Parts_hold : ℕ → ℕ → Shape → Type 0
   Parts_hold l n p = (is_full pass quantity.Parts n ≡ false) × (formed.Shape_formed Fit pass p × (suc (need_shape p) ≤ l))
 
-  shapes_fit : (l n : ℕ) (ps : List Shape) → 1 ≤ l → Along (λ _. true) (λ _. true) (λ k _. suc k) (Parts_hold l) n ps → formed.Shapes_formed Fit pass n (shapes ps) × (suc (need_shapes (shapes ps)) ≤ l)
+  pub shapes_fit : (l n : ℕ) (ps : List Shape) → 1 ≤ l → Along (λ _. true) (λ _. true) (λ k _. suc k) (Parts_hold l) n ps → formed.Shapes_formed Fit pass n (shapes ps) × (suc (need_shapes (shapes ps)) ≤ l)
   shapes_fit l n [] h e = (tt, h)
   shapes_fit l n (p ∷ more) h (go, ((full, f), e)) = let rest = shapes_fit l (suc n) more h e in ((full, (f.0, rest.0)), omega (arith, f.1, rest.1))
 

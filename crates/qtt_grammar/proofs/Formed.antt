@@ -18,7 +18,11 @@ use Rattle.qtt_syntax.specs.Tree.Statement.{bind, local, run}
 use Rattle.qtt_syntax.specs.Tree.Statements.{no_statement, statement_and}
 use Rattle.qtt_syntax.specs.Tree.Shape.{variable, wildcard, constructor, dot}
 use Rattle.qtt_syntax.specs.Tree.Shapes.{no_shape, shape_and}
+use Rattle.qtt_syntax.specs.Tree.Param.{param}
+use Rattle.qtt_syntax.specs.Tree.Con.{con}
 use Rattle.qtt_syntax.specs.Tree.Item.{family, signature, clause}
+use Rattle.qtt_syntax.specs.Tree.Module.{module_text}
+use Rattle.qtt_syntax.specs.declared.module.Import.{Import}
 use Rattle.qtt_syntax.specs.Words.{Word}
 use Rattle.qtt_syntax.specs.Printing.{is_atom, is_app, is_arrow, is_empty}
 use Rattle.qtt_grammar.specs.declared.class.Class.{Class}
@@ -27,7 +31,8 @@ use Rattle.qtt_grammar.specs.declared.class.Pass.{Pass}
 use Rattle.qtt_grammar.specs.Classes.{same, is_name, is_simple, is_bname, is_big, is_constructor, is_number, is_bound_or_name}
 use Rattle.qtt_grammar.specs.Lexeme.{Lexeme, type_lexeme, text_lexeme}
 use Rattle.qtt_grammar.specs.Limits.{is_full, excess_of, number_of}
-use Rattle.qtt_grammar.specs.Grammar.{ends_in_hole, statement_in_hole, standing_of, may_end, may_go}
+use Rattle.qtt_grammar.specs.Grammar.{ends_in_hole, statement_in_hole, standing_of, may_end, may_go, Place, start, clauses_before, next_place}
+use Rattle.qtt_grammar.specs.Grammar.Entry.{listed}
 use Rattle.qtt_grammar.specs.Sketch.{nowhere, named_class, word_lexeme}
 
 -- ---- nesting levels
@@ -180,3 +185,49 @@ module _ (Fit : Word → Type 0) (pass : Pass) where
     pub Shapes_formed : ℕ → Shapes → Type 0
     Shapes_formed n no_shape = Unit {0}
     Shapes_formed n (shape_and p more) = (is_full pass quantity.Parts n ≡ false) × (Shape_formed p × Shapes_formed (suc n) more)
+
+  -- ---- items, of which the outermost level has so many levels inside, and a level inside it so many
+
+  abbrev pub is_zero_or_many : Mult → Bool
+  is_zero_or_many Zero = true
+  is_zero_or_many One = false
+  is_zero_or_many Many = true
+
+  abbrev pub Within_levels : ℕ → Tree → Type 0
+  Within_levels l t = (Formed t × Plain t) × (need t ≤ l)
+
+  abbrev pub Param_formed : ℕ → Param → Type 0
+  Param_formed l (param m n t s) = (is_zero_or_many m ≡ true) × (Named is_simple n × Within_levels l t)
+
+  abbrev pub Params_formed : ℕ → ℕ → List Param → Type 0
+  Params_formed l n [] = Unit {0}
+  Params_formed l n (p ∷ more) = (is_full pass quantity.Parts n ≡ false) × (Param_formed l p × Params_formed l (suc n) more)
+
+  abbrev pub Con_formed : ℕ → Con → Type 0
+  Con_formed l (con n t s) = Named is_big n × (Typing_formed t × (need t ≤ l))
+
+  abbrev pub More_cons_formed : ℕ → ℕ → List Con → Type 0
+  More_cons_formed l n [] = Unit {0}
+  More_cons_formed l n (k ∷ more) = (is_full pass quantity.Constructors n ≡ false) × (Con_formed l k × More_cons_formed l (suc n) more)
+
+  abbrev pub Cons_formed : ℕ → List Con → Type 0
+  Cons_formed l [] = Unit {0}
+  Cons_formed l (k ∷ more) = Con_formed l k × More_cons_formed l 1 more
+
+  abbrev pub Item_formed : ℕ → ℕ → Place → Item → Type 0
+  Item_formed l i at (family n ns ps t cs s) = Named is_big n × (Params_formed i 0 ps × (Within_levels l t × Cons_formed l cs))
+  Item_formed l i at (signature p m n ns t s) = (is_zero_or_many m ≡ true) × (Named is_simple n × (Typing_formed t × (need t ≤ l)))
+  Item_formed l i at (clause n ps side s) =
+      Named is_simple n × ((is_full pass quantity.Clauses (clauses_before at n) ≡ false) × ((Shapes_formed 0 (shapes ps) × (need_shapes (shapes ps) ≤ l)) × (Formed side × (need side ≤ l))))
+
+  -- each below the counts, where so many stand before
+  abbrev pub Items_formed : ℕ → ℕ → Place → List Item → Type 0
+  Items_formed l i at [] = Unit {0}
+  Items_formed l i at (item ∷ more) = (is_full pass quantity.Items at.items ≡ false) × (Item_formed l i at item × Items_formed l i (next_place at (listed item)) more)
+
+  abbrev pub Imports_formed : List Import → Type 0
+  Imports_formed [] = Unit {0}
+  Imports_formed (i ∷ more) = Named is_name i.name × Imports_formed more
+
+  abbrev pub Module_formed : ℕ → ℕ → Module → Type 0
+  Module_formed l i (module_text s n ns is ts) = Named is_name n × (Imports_formed is × Items_formed l i start ts)

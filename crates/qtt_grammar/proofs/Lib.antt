@@ -15,3 +15,5 @@ pub mod Shown
 pub mod Gives
 pub mod Allowed
 pub mod ShownPatterns
+pub mod ItemsAllowed
+pub mod ItemsShown

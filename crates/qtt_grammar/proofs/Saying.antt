@@ -258,6 +258,6 @@ mutual
   says_shape (constructor k n ps s) = sketched-bracketed (is_empty ps) (Printed.word (Word.named n.path) ∷ print.patterns ps) (named n.path ∷ say_shapes ps) (ap (λ (v : List Lexeme). named n.path ∷ v) (says_shapes ps))
   says_shape (dot k t s) = ap (λ (v : List Lexeme). mark class.DotParen ∷ v) (sketched-append (print.expr 0 t) (print.key (codes ")") ∷ []) ∙ rw (says 0 t) refl)
 
-  says_shapes : (ps : Shapes) → sketched (print.patterns ps) ≡ say_shapes ps
+  pub says_shapes : (ps : Shapes) → sketched (print.patterns ps) ≡ say_shapes ps
   says_shapes no_shape = refl
   says_shapes (shape_and p more) = sketched-append (print.pattern p) (print.patterns more) ∙ rw (says_shape p, says_shapes more) refl

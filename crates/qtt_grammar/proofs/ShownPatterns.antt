@@ -46,7 +46,7 @@ group_value : (m n : named_code.Named) (l : List Shape) (p : Shape) (more : Shap
 group_value m n [] p more s e f = absurd cc
 group_value m n (q ∷ l) p more s e f = let x = e in let y = f in cc
 
-plain_ends : (t : Tree) → ends_in_hole t ≡ false → ends_in_hole t ≡ true → false ≡ true
+pub plain_ends : (t : Tree) → ends_in_hole t ≡ false → ends_in_hole t ≡ true → false ≡ true
 plain_ends t e f = sym e ∙ f
 
 module _ (Fit : Word → Type 0) (pass : Pass) where
