@@ -17,3 +17,4 @@ pub mod Allowed
 pub mod ShownPatterns
 pub mod ItemsAllowed
 pub mod ItemsShown
+pub mod Again

@@ -7,3 +7,4 @@ pub mod Answer
 pub mod Examples
 pub mod Sketch
 pub mod Unplaced
+pub mod Spelled
