@@ -18,3 +18,4 @@ pub mod ShownPatterns
 pub mod ItemsAllowed
 pub mod ItemsShown
 pub mod Again
+pub mod TextForms
