@@ -1,7 +1,7 @@
 -- A run stops in one way.
-use Rattle.std.proofs.Common.{◌≡◌, ℕ, zero, suc, ◌-◌, ◌≤◌, refl, sym, ◌∙◌, ap, subst, arith}
+use Rattle.std.proofs.Common.{◌≡◌, ℕ, suc, ◌-◌, ◌≤◌, refl, sym, ◌∙◌, ap, subst, arith}
 use Rattle.qtt_code.specs.Instruction.{Program}
-use Rattle.qtt_code.specs.Machine.{State, Did, Halt, instruction, Reaches, Stops, Advances}
+use Rattle.qtt_code.specs.Machine.{State, Did, Halt, instruction, Reaches, Stops}
 use Rattle.qtt_code.specs.Laws.{HaltsAreUnique}
 
 abbrev state_of : Did → State → State

@@ -1,5 +1,5 @@
 -- One more line of a listing.
-use Rattle.std.proofs.Common.{◌≡◌, ℕ, zero, suc, ◌+◌, ◌<◌, List, [], ◌∷◌, ◌++◌, length, get_or, take, map, flat_map, refl, sym, ◌∙◌, ap, arith, append_assoc, append-nil, add-one}
+use Rattle.std.proofs.Common.{◌≡◌, ℕ, suc, ◌+◌, ◌<◌, List, [], ◌∷◌, ◌++◌, length, get_or, take, map, flat_map, sym, ◌∙◌, ap, arith, append_assoc, append-nil, add-one}
 use Rattle.std.proofs.lemmas.List.{length-map, length-take-le, map-append, flat_map_more}
 use Rattle.std.proofs.Math.Seq.{take-suc}
 use Rattle.qtt_term.specs.Items.{DefinitionEntry}
