@@ -88,9 +88,9 @@ module _ (E : Env) where
       excess (total_blocks (map (sized E) ds)) (total_instructions (map (sized E) ds)) ≡ excess (sum_by body_blocks (bodies E ds)) (sum_by body_instructions (bodies E ds))
   same_excess ds =
       let p = ap (nat_lt standard.blocks) (sized-blocks ds) ∙ same-test standard.blocks _ _ (capped-sum standard.blocks (λ d. block_count (erased_bodies E d)) ds)
-              ∙ ap (nat_lt standard.blocks) (sym (body-blocks ds)) in
+      ∙ ap (nat_lt standard.blocks) (sym (body-blocks ds)) in
       let q = ap (nat_lt standard.instructions) (sized-instructions ds) ∙ same-test standard.instructions _ _ (capped-sum standard.instructions (λ d. instruction_count (erased_bodies E d)) ds)
-              ∙ ap (nat_lt standard.instructions) (sym (body-instructions ds)) in
+      ∙ ap (nat_lt standard.instructions) (sym (body-instructions ds)) in
       ap₂ (λ x y. cond x (Some (Limit Blocks (standard.blocks + 1))) (cond y (Some (Limit Instructions (standard.instructions + 1))) None)) p q
 
   -- ---- first blocks
@@ -107,7 +107,7 @@ module _ (E : Env) where
       by_body later None e = ap (λ o. base_list (put (capped standard.blocks (block_count o)))) e ∙ later n
       by_body later (Some t) e =
           let few : capped standard.blocks (block_count (erased_bodies E d)) ≡ length (flat_functions 0 t) =
-              small standard.blocks (block_count (erased_bodies E d)) (total_blocks (map (sized E) ds)) h ∙ ap block_count e in
+          small standard.blocks (block_count (erased_bodies E d)) (total_blocks (map (sized E) ds)) h ∙ ap block_count e in
           ap (λ s. base_list (put s)) few
           ∙ ap (λ b. base_list (cond b (firsts_from n (map (sized E) ds)) ((d, n) ∷ firsts_from (n + length (flat_functions 0 t)) (map (sized E) ds))))
           (ne_eqb (length (flat_functions 0 t)) 0 (λ z. omega arith))

@@ -9,11 +9,7 @@ use std::thread;
 use std::thread::Threads;
 
 /// What a function answers for each id, in their order. Groups of at most so many are worked on at once, each after the one before it.
-pub fn grouped<
-    R: Threads + Sync,
-    X: Send + Drop,
-    F: Fn(GlobalId) -> Result<X, MemoryError> + Sync,
->(
+pub fn grouped<R: Threads + Sync, X: Send + Drop, F: Fn(GlobalId) -> Result<X, MemoryError> + Sync>(
     rt: &R,
     alloc: Global,
     ids: &[GlobalId],
@@ -35,11 +31,7 @@ pub fn grouped<
     Ok(answers)
 }
 
-fn one_group<
-    R: Threads + Sync,
-    X: Send + Drop,
-    F: Fn(GlobalId) -> Result<X, MemoryError> + Sync,
->(
+fn one_group<R: Threads + Sync, X: Send + Drop, F: Fn(GlobalId) -> Result<X, MemoryError> + Sync>(
     rt: &R,
     alloc: Global,
     group: &[GlobalId],

@@ -4,8 +4,8 @@
 pub mod bases;
 pub mod definition;
 pub mod examples;
-pub mod laws;
 mod grouped;
+pub mod laws;
 mod lowering;
 mod position;
 pub mod program;

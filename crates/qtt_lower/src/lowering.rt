@@ -167,7 +167,15 @@ fn lower(
             give(code, position, Instr::Con(*tag, count(fields)?))
         }
         FlatTerm::Case(scrutinee, branches) => {
-            lower(alloc, bases, captured, Position::Inner, depth, scrutinee, code)?;
+            lower(
+                alloc,
+                bases,
+                captured,
+                Position::Inner,
+                depth,
+                scrutinee,
+                code,
+            )?;
             lower_branches(alloc, bases, captured, position, depth, branches, code)
         }
         FlatTerm::Lit(lit) => give(code, position, literal(lit)?),

@@ -16,7 +16,12 @@ const MAIN: GlobalId = GlobalId {
 /// `main = putLine (showInt ((\(1 x : Int) => x) 3))`.
 fn small(alloc: Global) -> Result<Globals, Fail> {
     let mut globals = Globals::prim(alloc)?;
-    globals.add_signature(MAIN, Name::new(alloc, "Main.main")?, Mult::Many, Term::IntTy)?;
+    globals.add_signature(
+        MAIN,
+        Name::new(alloc, "Main.main")?,
+        Mult::Many,
+        Term::IntTy,
+    )?;
     let function = Term::lam(alloc, Mult::One, Term::IntTy, Term::Var(0))?;
     let three = Term::app(alloc, Mult::One, function, Term::Lit(Lit::Int(3)))?;
     let shown = Term::Prim(Primitive::ShowInt, vec![in alloc; three]?);
@@ -31,8 +36,7 @@ fn a_program_is_lowered(rt: HostRuntime) -> Result<(), Fail> {
     let globals = small(alloc)?;
     let compiled = lower_all(&rt, alloc, &globals, 2)?;
     let text = format!(in alloc; "{:?}", compiled.program())?;
-    assert_eq!(
-        rt;
+    assert_eq!(rt;
         text.as_str(),
         "Program { blocks: [\
          Block { owner: GlobalId { module: ModuleId(1), item: 0 }, captured: 0, takes: 0, \
@@ -41,7 +45,13 @@ fn a_program_is_lowered(rt: HostRuntime) -> Result<(), Fail> {
          code: [Local(0), Return] }] }"
     );
     assert_eq!(rt; compiled.entry(MAIN), Some(0));
-    assert_eq!(rt; size_of(alloc, &globals, MAIN)?, Size { blocks: 2, instrs: 8 });
+    assert_eq!(rt;
+        size_of(alloc, &globals, MAIN)?,
+        Size {
+            blocks: 2,
+            instrs: 8
+        }
+    );
     let bases = Bases {
         firsts: vec![in alloc; (MAIN, 5)]?,
     };

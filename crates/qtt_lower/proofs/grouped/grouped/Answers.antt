@@ -14,7 +14,7 @@ loop-rest-preserved g c =
     λ xs h.
     let more = c.in_ok-more.more.items in
     let whole : c.split_at.result.0.now ++ c.split_at.result.1.now ≡ c.loop-rest.rest.now =
-        grind (arith, common_steps, c.split_at.ensures.front, c.split_at.ensures.back) in
+    grind (arith, common_steps, c.split_at.ensures.front, c.split_at.ensures.back) in
     let both = answered-append g.F.Fn c.args.work.now c.split_at.result.0.now c.split_at.result.1.now more xs c.in_ok-more.ensures h in
     let all = c.loop-rest.invariant (more ++ xs) (subst (λ js. Answered g.F.Fn c.args.work.now js (more ++ xs)) whole both) in
     subst (λ ys. Answered g.F.Fn c.args.work.now c.args.ids.now ys)

@@ -31,9 +31,9 @@ returns g c =
     let again : c.deref-3.result.now ≡ map (sized E) ds = c.deref-3.ensures.value ∙ c.in_ok-sizes.ensures ∙ ap (map (sized E)) (c.deref.ensures.value ∙ ids) in
     let few = subst (λ ss. total_blocks ss ≤ standard.blocks) given c.in_ok-within_limits.ensures.few in
     let firsts : bases c.in_ok-bases.bases ≡ programs.bases (bodies_of c.args.env.now) =
-        ap base_list (c.in_ok-bases.ensures ∙ ap (firsts_from 0) again) ∙ same_firsts E ds 0 few in
+    ap base_list (c.in_ok-bases.ensures ∙ ap (firsts_from 0) again) ∙ same_firsts E ds 0 few in
     let all : part_list c.in_ok-parts.parts.items ≡ map (λ d. blocks_of (programs.bases (bodies_of c.args.env.now)) d (erased_bodies E d)) ds =
-        c.in_ok-parts.ensures ∙ ap₂ (λ bs is. map (λ d. blocks_of bs d (erased_bodies E d)) is) firsts (c.deref-4.ensures.value ∙ ids) in
+    c.in_ok-parts.ensures ∙ ap₂ (λ bs is. map (λ d. blocks_of bs d (erased_bodies E d)) is) firsts (c.deref-4.ensures.value ∙ ids) in
     record {
       within = sym (program_excess E ds) ∙ sym (ap (λ ss. excess (total_blocks ss) (total_instructions ss)) given) ∙ c.in_ok-within_limits.ensures.excess;
       program = c.in_ok-blocks.ensures ∙ ap joined all ∙ blocks_are_program E ds c.in_ok-ids.ensures.differ;
