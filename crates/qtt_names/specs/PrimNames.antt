@@ -29,11 +29,9 @@ prim_items = numbered 0 prim_names
 abbrev pub prim_name : List ℕ
 prim_name = codes "Prim"
 
+abbrev pub prim_import : Imported
+prim_import = record { name = prim_name; items = prim_items }
+
 -- The scope of a text: Prim is one of its imports.
 abbrev pub scope_of : ModuleId → Module → List Imported → Scope
-scope_of home m imports = record {
-  home = home;
-  name = module_name m;
-  own = own_items m;
-  imports = record { name = prim_name; items = prim_items } ∷ imports;
-}
+scope_of home m imports = record { home = home; name = module_name m; own = own_items m; imports = prim_import ∷ imports }
