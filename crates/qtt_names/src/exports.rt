@@ -1,7 +1,7 @@
 //! What a module gives to those that import it.
 
-ghost use Rattle.std.specs.Prelude.{◌≡◌, IfOk};
-ghost use Rattle.qtt_names.specs.PrimNames.{prim_name as name_of_prim, prim_items as items_of_prim};
+ghost use Rattle.std.specs.Prelude.{◌≡◌, ◌<◌, ◌^◌, [], length, IfOk};
+ghost use Rattle.qtt_names.specs.PrimNames.{prim_name as name_of_prim, prim_items as items_of_prim, with_names};
 
 use crate::target::part;
 use indexmap::IndexMap;
@@ -71,12 +71,14 @@ pub(crate) fn prim_name(alloc: Global) -> Result<Name, MemoryError>
     part(alloc, "Prim")
 }
 
-/// The items of Prim by their names.
-pub(crate) fn prim_items(alloc: Global) -> Result<IndexMap<Name, GlobalId>, MemoryError>
-    ensures { IfOk result (λ m. m.entries ≡ items_of_prim) }
+/// Names by which the items of Prim of these numbers go.
+#[tactic(auto, using(crate::proofs::Owning::owning))]
+fn numbered(alloc: Global, names: &[&str]) -> Result<IndexMap<Name, GlobalId>, MemoryError>
+    requires { length names.now < 2 ^ 32 }
+    ensures { IfOk result (λ m. m.entries ≡ with_names [] 0 names.now) }
 {
     let mut items = IndexMap::new(alloc);
-    for (number, name) in PRIM_NAMES.iter().enumerate() {
+    for (number, name) in names.iter().enumerate() {
         let id = GlobalId {
             module: ModuleId(0),
             item: number as u32,
@@ -84,6 +86,13 @@ pub(crate) fn prim_items(alloc: Global) -> Result<IndexMap<Name, GlobalId>, Memo
         items.insert(part(alloc, name)?, id)?;
     }
     Ok(items)
+}
+
+/// The items of Prim by their names.
+pub(crate) fn prim_items(alloc: Global) -> Result<IndexMap<Name, GlobalId>, MemoryError>
+    ensures { IfOk result (λ m. m.entries ≡ items_of_prim) }
+{
+    numbered(alloc, &PRIM_NAMES)
 }
 
 pub(crate) fn copied_items(

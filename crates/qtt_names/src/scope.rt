@@ -58,11 +58,8 @@ impl Scope {
 }
 
 /// Puts a name behind those that are known, unless it is one of them, and answers the next number.
-fn put(
-    own: &mut IndexMap<Name, OwnItem>,
-    name: &Name,
-    item: OwnItem,
-) -> Result<u32, MemoryError>
+#[tactic(auto, using(crate::proofs::Owning::owning))]
+fn put(own: &mut IndexMap<Name, OwnItem>, name: &Name, item: OwnItem) -> Result<u32, MemoryError>
     ensures entries { OnOk result (own.new.entries ≡ with_item own.old.entries name.now item) }
     ensures next { IfOk result (λ n. n ≡ item.number + 1) }
 {
@@ -99,11 +96,7 @@ fn put_constructors(
 
 /// Puts the names that an item declares, of which the first has this number, and answers the next number.
 #[tactic(auto, using(crate::proofs::Owning::owning))]
-fn put_item(
-    own: &mut IndexMap<Name, OwnItem>,
-    number: u32,
-    item: &Item,
-) -> Result<u32, MemoryError>
+fn put_item(own: &mut IndexMap<Name, OwnItem>, number: u32, item: &Item) -> Result<u32, MemoryError>
     ensures entries { OnOk result (own.new.entries ≡ with_items own.old.entries number (declared (item_of item.now))) }
     ensures next { IfOk result (λ n. n ≡ number + length (declared (item_of item.now))) }
 {
@@ -140,6 +133,15 @@ fn own_items(alloc: Global, items: &[Item]) -> Result<IndexMap<Name, OwnItem>, M
     Ok(own)
 }
 
+fn copied_import(import: &Exports) -> Result<Imported, MemoryError>
+    ensures { IfOk result (λ i. imported_of i ≡ export_of import.now) }
+{
+    Ok(Imported {
+        name: import.name.copy()?,
+        items: copied_items(&import.items)?,
+    })
+}
+
 /// Prim, and these imports.
 fn with_prim(alloc: Global, imports: &[Exports]) -> Result<Vec<Imported>, MemoryError>
     ensures { IfOk result (λ v. map imported_of v.items ≡ prim_import ∷ map export_of imports.now) }
@@ -150,10 +152,7 @@ fn with_prim(alloc: Global, imports: &[Exports]) -> Result<Vec<Imported>, Memory
         items: prim_items(alloc)?,
     })?;
     for import in imports {
-        done.push(Imported {
-            name: import.name.copy()?,
-            items: copied_items(&import.items)?,
-        })?;
+        done.push(copied_import(import)?)?;
     }
     Ok(done)
 }
