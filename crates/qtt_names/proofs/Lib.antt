@@ -7,3 +7,4 @@ pub mod Shapes
 pub mod Holes
 pub mod Passing
 pub mod Members
+pub mod Owning

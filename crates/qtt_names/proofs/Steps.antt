@@ -59,7 +59,7 @@ module _ {S A B : Type 0} (each : S → A → Answer B) (next : S → A → S) w
   -- along a list: what has been passed, what it is at, and what is left
   pub in_turn-at : {C : Type 0} (view : C → A) (s : S) (xs : List C) (i : ℕ) (x : C) → i < length xs → x ≡ get_or xs i x
       → in_turn each next s (map view xs)
-          ≡ (in_turn each next s (map view (take i xs)) >>= λ bs. in_turn each next (fold next s (map view (take i xs))) (view x ∷ map view (drop (i + 1) xs)) >>= λ cs. Ok (bs ++ cs))
+      ≡ (in_turn each next s (map view (take i xs)) >>= λ bs. in_turn each next (fold next s (map view (take i xs))) (view x ∷ map view (drop (i + 1) xs)) >>= λ cs. Ok (bs ++ cs))
   in_turn-at view s xs i x lt here =
       ap (in_turn each next s) (split view xs i x lt here) ∙ in_turn-append s (map view (take i xs)) (view x ∷ map view (drop (i + 1) xs))
 

@@ -6,5 +6,6 @@ pub mod Filled
 pub mod Patterns
 pub mod Resolved
 pub mod PrimNames
+pub mod Exports
 pub mod View
 pub mod Examples

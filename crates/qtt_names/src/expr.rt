@@ -245,11 +245,7 @@ impl Resolver<'_> {
     /// Binders, whose names are put behind the locals.
     #[cycle(filled)]
     #[tactic(auto, using(crate::proofs::Parts::parts))]
-    fn binders(
-        &self,
-        locals: &mut Vec<Name>,
-        source: &[Binder],
-    ) -> Result<Vec<Binder>, NamesError>
+    fn binders(&self, locals: &mut Vec<Name>, source: &[Binder]) -> Result<Vec<Binder>, NamesError>
         ensures gives { Gives binder_list result (in_turn (filled_binder (names_of self.now)) behind_binder locals.old.items (map binder_of source.now)) }
         ensures bound { OnOk result (locals.new.items ≡ fold behind_binder locals.old.items (map binder_of source.now)) }
     {
@@ -263,11 +259,7 @@ impl Resolver<'_> {
     /// A statement. The name that it binds, if it binds one, is put behind the locals.
     #[cycle(filled)]
     #[tactic(auto, using(crate::proofs::Parts::parts))]
-    fn statement(
-        &self,
-        locals: &mut Vec<Name>,
-        source: &Statement,
-    ) -> Result<Statement, NamesError>
+    fn statement(&self, locals: &mut Vec<Name>, source: &Statement) -> Result<Statement, NamesError>
         ensures gives { Gives statement_of result (filled_statement (names_of self.now) locals.old.items (statement_of source.now)) }
         ensures bound { OnOk result (locals.new.items ≡ behind_statement locals.old.items (statement_of source.now)) }
     {

@@ -2,6 +2,7 @@
 #![tactic(auto)]
 
 mod errors;
+mod exports;
 mod expr;
 mod module;
 mod pattern;
@@ -9,5 +10,6 @@ mod scope;
 mod target;
 
 pub use errors::NamesError;
+pub use exports::{Exports, Sig};
 pub use module::resolve;
 pub use scope::Scope;

@@ -27,11 +27,7 @@ impl Found {
         match self {
             Found::Nothing => Found::One(Target::Global(id)),
             Found::One(Target::Global(first)) => {
-                if first.same(id) {
-                    self
-                } else {
-                    Found::Several
-                }
+                if first.same(id) { self } else { Found::Several }
             }
             Found::One(_) | Found::Several => Found::Several,
         }
