@@ -35,6 +35,7 @@ use Rattle.qtt_grammar.specs.Grammar as grammar
 use Rattle.qtt_grammar.specs.Grammar.{Says, of, place, Level, Symbol, Opening, Locally, IsMark, local_of, named_of, mult_of, word_of, typed_of, lambda_of, annotation_of, let_parts, LetParts, let_of, after_in, let_statement_of, bind_of, run_of, next_of, do_of, bracket_of, braced_of, written_of, the_of, app_of, named_app_of, other_app_of, behind_of, arrow_of, pi_of, implicit_of, ends_in_hole, statement_in_hole, last_in_hole, standing_of, may_end, may_go, next_line, Line, Typed, IsBinder, Lambda, IsAnnotation, LetHead, Letting, Lines, Block, Doing, Bracket, OtherAtom, IsAtom, Atoms, Brace, The, NamedApp, OtherApp, IsApp, Arrow, Pi, Hole, OtherExpr, IsExpr, LetStatement, Binding, IsStatement, Implicit, IsTyping, Counted, pattern_word, group_of, nested_of, bracketed_of, dot_of, bare_of, Bracketed, Dot, OtherPattern, IsPattern, Shape_of, Simple_level, levels}
 use Rattle.qtt_grammar.specs.Sketch.{nowhere, named_class}
 use Rattle.qtt_grammar.proofs.Decide.{among}
+use Rattle.qtt_grammar.proofs.Tokens.{excess_case}
 use Rattle.qtt_grammar.proofs.Formed as formed
 use Rattle.qtt_grammar.proofs.Formed.{wrapped_need, domain_need, need, need_annotation, need_arguments, need_argument, need_binders, need_binder, need_statements, need_statement, need_shape, need_shapes}
 use Rattle.qtt_grammar.proofs.Gives.{Each, Along, Gives, weighed_gives, token_gives, chain_gives, ◌then_gives◌, made_gives, ◌or_gives◌, many_gives, run_gives, perhaps_gives, placed_gives, wider_gives, opened_gives, up_to_gives}
@@ -75,10 +76,6 @@ domain_most : (b c : Bool) (k l : ℕ) → suc k ≤ l → cond b (wrapped_need 
 domain_most true c k l h = wrapped_most c k l h
 domain_most false c k l h = h
 
-excess_nowhere_case : {F : Type 0} (b : Bool) (f g : F) → cond b (Some f) None ≡ None → cond b (Some g) None ≡ None
-excess_nowhere_case true f g e = absurd cc
-excess_nowhere_case false f g e = refl
-
 pub plain_case : (b : Bool) → (b ≡ true → false ≡ true) → b ≡ false
 plain_case true h = absurd (let e = h refl in cc)
 plain_case false h = refl
@@ -94,7 +91,7 @@ module _ (Fit : Word → Type 0) (wild : Fit (Word.named (codes "_"))) (pass : P
   Formed = formed.Formed Fit pass
 
   abbrev pub Plain : Tree → Type 0
-  Plain = formed.Plain Fit pass
+  Plain = formed.Plain
 
   abbrev pub Named : (Class → Bool) → List ℕ → Type 0
   Named = formed.Named Fit pass
@@ -144,8 +141,8 @@ module _ (Fit : Word → Type 0) (wild : Fit (Word.named (codes "_"))) (pass : P
   word_formed class.One x l e w o f = (f.number (ap is_number e), (refl, omega arith))
   word_formed class.Natural x l e w o f = (f.number (ap is_number e), (refl, omega arith))
   word_formed class.Negative x l e w o f = (f.number (ap is_number e), (refl, omega arith))
-  word_formed class.Text x l e w o f = ((excess_nowhere_case _ _ _ o, f.text e), (refl, omega arith))
-  word_formed class.Universe x l e w o f = ((excess_nowhere_case _ _ _ o, f.level e), (refl, omega arith))
+  word_formed class.Text x l e w o f = ((excess_case _ _ _ o, f.text e), (refl, omega arith))
+  word_formed class.Universe x l e w o f = ((excess_case _ _ _ o, f.level e), (refl, omega arith))
   word_formed _ x l e w o f = absurd cc
 
   -- ---- the level inside
@@ -178,7 +175,7 @@ module _ (Fit : Word → Type 0) (wild : Fit (Word.named (codes "_"))) (pass : P
   braced_fit l [] atoms e f = written_fit true l atoms f
   braced_fit l (a ∷ more) atoms ((t, (is, g)), e) f = let rest = braced_fit l more atoms e f in rw is ((refl, ((g.0, plain_of l t g), rest.0)), omega (arith, g.1.1, rest.1))
 
-  app_fits : (l : ℕ) (s : Span) (f : Tree) (args : List tree.Argument) → Atomic l f → Arguments_fit (formed.is_named Fit pass f) l args → Applied l (app_of s f args)
+  app_fits : (l : ℕ) (s : Span) (f : Tree) (args : List tree.Argument) → Atomic l f → Arguments_fit (formed.is_named f) l args → Applied l (app_of s f args)
   app_fits l s f [] h g = (h.0, (h.1.0, app_least f (need f) l h.1.1))
   app_fits l s f (a ∷ more) h g = (((h.0, h.1.0), (refl, g.0)), (refl, omega (arith, h.1.1, g.1)))
 
@@ -316,7 +313,7 @@ module _ (Fit : Word → Type 0) (wild : Fit (Word.named (codes "_"))) (pass : P
     named_app_holds = made_gives named_app_of (named_token is_name name_named then_gives many_gives brace_holds then_gives atoms_hold) (λ a r. app_fits l a.0.span (name a.0) (a.1.0 ++ a.1.1) (r.0, (refl, omega arith)) (braced_fit l a.1.0 a.1.1 r.1.0 r.1.1))
 
     other_app_holds : Holds (OtherApp pass may inner) (Applied l)
-    other_app_holds = made_gives other_app_of (placed_gives (other_atom_holds then_gives atoms_hold)) (λ a r. app_fits l a.0 a.1.0 a.1.1 r.0 (written_fit (formed.is_named Fit pass a.1.0) l a.1.1 r.1))
+    other_app_holds = made_gives other_app_of (placed_gives (other_atom_holds then_gives atoms_hold)) (λ a r. app_fits l a.0 a.1.0 a.1.1 r.0 (written_fit (formed.is_named a.1.0) l a.1.1 r.1))
 
     app_holds : Holds (IsApp pass may inner) (Applied l)
     app_holds = the_holds or_gives named_app_holds or_gives other_app_holds

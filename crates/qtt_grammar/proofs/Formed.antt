@@ -103,26 +103,31 @@ abbrev mutual
 
 -- ---- forms
 
+-- no hole ends the tree
+abbrev pub Plain : Tree → Type 0
+Plain t = ends_in_hole t ≡ false
+
+abbrev pub is_named : Tree → Bool
+is_named (name n) = true
+is_named _ = false
+
+abbrev pub some_argument : Arguments → Bool
+some_argument no_argument = false
+some_argument (argument_and a more) = true
+
+abbrev pub some_binder : Binders → Bool
+some_binder no_binder = false
+some_binder (binder_and b more) = true
+
+abbrev pub is_zero_or_many : Mult → Bool
+is_zero_or_many Zero = true
+is_zero_or_many One = false
+is_zero_or_many Many = true
+
 module _ (Fit : Word → Type 0) (pass : Pass) where
   -- a name of this form
   abbrev pub Named : (Class → Bool) → List ℕ → Type 0
   Named is n = (is (named_class n) ≡ true) × Fit (Word.named n)
-
-  -- no hole ends the tree
-  abbrev pub Plain : Tree → Type 0
-  Plain t = ends_in_hole t ≡ false
-
-  abbrev pub is_named : Tree → Bool
-  is_named (name n) = true
-  is_named _ = false
-
-  abbrev pub some_argument : Arguments → Bool
-  some_argument no_argument = false
-  some_argument (argument_and a more) = true
-
-  abbrev pub some_binder : Binders → Bool
-  some_binder no_binder = false
-  some_binder (binder_and b more) = true
 
   abbrev mutual
     pub Formed : Tree → Type 0
@@ -187,11 +192,6 @@ module _ (Fit : Word → Type 0) (pass : Pass) where
     Shapes_formed n (shape_and p more) = (is_full pass quantity.Parts n ≡ false) × (Shape_formed p × Shapes_formed (suc n) more)
 
   -- ---- items, of which the outermost level has so many levels inside, and a level inside it so many
-
-  abbrev pub is_zero_or_many : Mult → Bool
-  is_zero_or_many Zero = true
-  is_zero_or_many One = false
-  is_zero_or_many Many = true
 
   abbrev pub Within_levels : ℕ → Tree → Type 0
   Within_levels l t = (Formed t × Plain t) × (need t ≤ l)

@@ -53,10 +53,10 @@ module _ (Fit : Word → Type 0) (wild : Fit (Word.named (codes "_"))) (pass : P
   any_name = locally is_name (among is_name is_bound_or_name refl)
 
   abbrev Zero_or_many : Mult → Type 0
-  Zero_or_many m = formed.is_zero_or_many Fit pass m ≡ true
+  Zero_or_many m = formed.is_zero_or_many m ≡ true
 
   zero_mark : Holds IsZero Zero_or_many
-  zero_mark = perhaps_gives mult.Many refl (token_gives (of is_zero) (λ x. mult_of x.class) (λ x f e. ap (formed.is_zero_or_many Fit pass) (allowed.zero_of Fit wild pass x.class e)))
+  zero_mark = perhaps_gives mult.Many refl (token_gives (of is_zero) (λ x. mult_of x.class) (λ x f e. ap (formed.is_zero_or_many) (allowed.zero_of Fit wild pass x.class e)))
 
   within : (k : ℕ) (t : Tree) → allowed.Inside Fit wild pass false (suc k) t → formed.Within_levels Fit pass k t
   within k t r = ((r.0, plain_case (ends_in_hole t) r.1.0), omega (arith, r.1.1))

@@ -121,7 +121,8 @@ placed_at P R w ws (x ∷ ls) e a p r = ((x.place, a), (x, ls, refl, refl, p), r
 pub placed : {A : Type 0} {P : Says A} {R : A → Type 0} {w : Lexeme} {ws : List Lexeme} → Prints P (w ∷ ws) R → Prints (Placed place P) (w ∷ ws) (λ c. R c.1)
 placed {P} {R} {w} {ws} p = record { at = λ ls e. let a = p.at ls e in placed_at P R w ws ls e a.0 a.1 a.2 }
 
-first_none : {F : Type 0} (p q : Option F) → first p q ≡ None → (p ≡ None) × (q ≡ None)
+-- neither of two parts has a fault
+pub first_none : {F : Type 0} (p q : Option F) → first p q ≡ None → (p ≡ None) × (q ≡ None)
 first_none None q e = (refl, e)
 first_none (Some f) q e = absurd cc
 

@@ -129,14 +129,16 @@ not_last n (run t s) h = not_last_case n (ends_in_hole t) h
 
 -- ---- counts
 
-up_to_case : {A : Type 0} {ws : List Lexeme} {R : A → Type 0} (P Q : Says A) (b : Bool) → b ≡ false → Prints P ws R → Prints (cond b Q P) ws R
+-- a phrase below its limit
+pub up_to_case : {A : Type 0} {ws : List Lexeme} {R : A → Type 0} (P Q : Says A) (b : Bool) → b ≡ false → Prints P ws R → Prints (cond b Q P) ws R
 up_to_case P Q true e p = absurd cc
 up_to_case P Q false e p = p
 
 pub up_to_words : {A : Type 0} {ws : List Lexeme} {R : A → Type 0} (pass : Pass) (q : Quantity) (n : ℕ) (P : Says A) → is_full pass q n ≡ false → Prints P ws R → Prints (Up_to pass q n P) ws R
 up_to_words pass q n P e p = up_to_case P _ (is_full pass q n) e p
 
-plain_ends : (t : Tree) → ends_in_hole t ≡ false → ends_in_hole t ≡ true → false ≡ true
+-- where no hole ends a tree, it may stand outside a tail position
+pub plain_ends : (t : Tree) → ends_in_hole t ≡ false → ends_in_hole t ≡ true → false ≡ true
 plain_ends t e f = sym e ∙ f
 
 module _ (Fit : Word → Type 0) (pass : Pass) where
@@ -144,10 +146,10 @@ module _ (Fit : Word → Type 0) (pass : Pass) where
   Formed = formed.Formed Fit pass
 
   abbrev pub Plain : Tree → Type 0
-  Plain = formed.Plain Fit pass
+  Plain = formed.Plain
 
   abbrev is_named : Tree → Bool
-  is_named = formed.is_named Fit pass
+  is_named = formed.is_named
 
   abbrev pub Ends : Bool → Tree → Type 0
   Ends tail t = ends_in_hole t ≡ true → tail ≡ true
@@ -216,7 +218,7 @@ module _ (Fit : Word → Type 0) (pass : Pass) where
 
   -- ---- applications and domains
 
-  some_args : (args : Arguments) → formed.some_argument Fit pass args ≡ true → Some_arguments args
+  some_args : (args : Arguments) → formed.some_argument args ≡ true → Some_arguments args
   some_args no_argument e = absurd cc
   some_args (argument_and a more) e = record { head = a; rest = more; are = refl }
 

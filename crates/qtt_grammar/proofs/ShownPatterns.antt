@@ -28,7 +28,7 @@ use Rattle.qtt_grammar.proofs.Formed as formed
 use Rattle.qtt_grammar.proofs.Formed.{need, need_shape, need_shapes}
 use Rattle.qtt_grammar.proofs.Forms.{Same, implicit_words}
 use Rattle.qtt_grammar.proofs.Shown as shown
-use Rattle.qtt_grammar.proofs.Shown.{may_at, inner_at, up_to_words}
+use Rattle.qtt_grammar.proofs.Shown.{may_at, inner_at, up_to_words, plain_ends}
 
 -- the same pattern but for places
 abbrev pub SameShape : Shape → Shape → Type 0
@@ -46,13 +46,10 @@ group_value : (m n : named_code.Named) (l : List Shape) (p : Shape) (more : Shap
 group_value m n [] p more s e f = absurd cc
 group_value m n (q ∷ l) p more s e f = let x = e in let y = f in cc
 
-pub plain_ends : (t : Tree) → ends_in_hole t ≡ false → ends_in_hole t ≡ true → false ≡ true
-plain_ends t e f = sym e ∙ f
-
 module _ (Fit : Word → Type 0) (pass : Pass) where
   -- ---- types
 
-  as_expr : (t : Tree) → formed.Formed Fit pass t × formed.Plain Fit pass t → (d : ℕ) → need t ≤ d → Prints (IsTyping pass (may_at d) (inner_at pass d)) (say t) (Same t)
+  as_expr : (t : Tree) → formed.Formed Fit pass t × formed.Plain t → (d : ℕ) → need t ≤ d → Prints (IsTyping pass (may_at d) (inner_at pass d)) (say t) (Same t)
   as_expr t f d h = second_of ((shown.shown Fit pass t f.0 d h).expr false (plain_ends t f.1))
 
   pub shown_typing : (t : Tree) → formed.Typing_formed Fit pass t → (d : ℕ) → need t ≤ d → Prints (IsTyping pass (may_at d) (inner_at pass d)) (say t) (Same t)
@@ -94,7 +91,7 @@ module _ (Fit : Word → Type 0) (pass : Pass) where
   group_words n p more s d t e q =
       second_of (second_of (second_of (made bracketed_of (opening is_left_paren class.LeftParen refl then_prints first_of (made {S = λ f. (r : Span) → bare_shape (f r) ≡ constructor Written (bare_named n) (bare_shapes (shape_and p more)) nowhere} group_of (named_token is_constructor n t e then_prints q) (λ a r v. group_value a.0 n a.1 p more v r.0 r.1)) then_prints symbol is_right_paren class.RightParen refl) (λ a r. r.1.0 a.0))))
 
-  dot_words : (t : Tree) (s : Span) (d : ℕ) → formed.Formed Fit pass t × formed.Plain Fit pass t → need t ≤ d → Prints (IsPattern pass (may_at (suc d)) (inner_at pass (suc d))) (mark class.DotParen ∷ (say t ++ mark class.RightParen ∷ [])) (SameShape (dot Written t s))
+  dot_words : (t : Tree) (s : Span) (d : ℕ) → formed.Formed Fit pass t × formed.Plain t → need t ≤ d → Prints (IsPattern pass (may_at (suc d)) (inner_at pass (suc d))) (mark class.DotParen ∷ (say t ++ mark class.RightParen ∷ [])) (SameShape (dot Written t s))
   dot_words t s d f h =
       second_of (second_of (first_of (made dot_of (opening is_dot_paren class.DotParen refl then_prints (shown.shown Fit pass t f.0 d h).expr false (plain_ends t f.1) then_prints symbol is_right_paren class.RightParen refl) (λ a r. let x = r.1.0 in cc))))
 

@@ -25,6 +25,8 @@ use Rattle.qtt_grammar.specs.Lexeme.{Lexeme, name_class, sign_class, number_clas
 use Rattle.qtt_grammar.specs.Sketch.{named_class}
 use Rattle.qtt_grammar.specs.Spelled.{HasForm, HaveForms}
 use Rattle.qtt_grammar.proofs.Gives.{Each}
+use Rattle.qtt_grammar.proofs.Tokens.{IsNumber, number_is}
+use Rattle.qtt_grammar.proofs.Tokens.IsNumber.{zero_class, one_class, natural_class, negative_class}
 
 -- the kind of a token is no name spelled `_`
 abbrev Fine : TokenKind → Type 0
@@ -101,25 +103,6 @@ kept_fine [] e = tt
 kept_fine (t ∷ ts) e = kept_case (role_of t.kind) t (kept ts) e.0 (kept_fine ts e.1)
 
 -- ---- lexemes
-
-data IsNumber : Class → Type 0 where
-  zero_class : IsNumber class.Zero
-  one_class : IsNumber class.One
-  natural_class : IsNumber class.Natural
-  negative_class : IsNumber class.Negative
-
-sign_number : (z : ℤ) → IsNumber (sign_class z)
-sign_number (pos n) = natural_class
-sign_number (negsuc n) = negative_class
-
-cond_number : (b : Bool) (c d : Class) → IsNumber c → IsNumber d → IsNumber (cond b c d)
-cond_number true c d i j = i
-cond_number false c d i j = j
-
-number_is : (bs : List ℕ) (z : ℤ) → IsNumber (number_class bs z)
-number_is [] z = sign_number z
-number_is (b ∷ []) z = cond_number _ _ _ zero_class (cond_number _ _ _ one_class (sign_number z))
-number_is (b ∷ c ∷ bs) z = sign_number z
 
 no_number : (c d : Class) → IsNumber c → is_bound_or_name c ≡ true → d ≡ c
 no_number c d zero_class e = absurd cc

@@ -50,7 +50,8 @@ zero_token = token is_zero (λ x. mult_of x.class) (numeral (pos 0)) refl (λ x 
 
 -- ---- atoms that are no names
 
-excess_case : (b : Bool) (f g : Excess) → cond b (Some f) None ≡ None → cond b (Some g) None ≡ None
+-- no fault is told, whatever it would be
+pub excess_case : {F : Type 0} (b : Bool) (f g : F) → cond b (Some f) None ≡ None → cond b (Some g) None ≡ None
 excess_case true f g e = absurd cc
 excess_case false f g e = refl
 
@@ -67,7 +68,8 @@ bare_word _ x = refl
 pub word_token : (pass : Pass) (w : Lexeme) (t : Tree) → is_word w.class ≡ true → excess_of pass w ≡ None → bare (word_of w.class w) ≡ bare t → Prints (Weighed (excess_of pass) (of is_word) (λ x. word_of x.class x)) (w ∷ []) (λ u. bare u ≡ bare t)
 word_token pass w t e f g = weighed (excess_of pass) is_word (λ x. word_of x.class x) w e (λ x h. (excess_elsewhere pass x.class x (ap (λ (y : Lexeme). word_excess pass y.class y) h ∙ f), bare_word x.class x ∙ ap (λ (y : Lexeme). bare (word_of y.class y)) h ∙ g))
 
-data IsNumber : Class → Type 0 where
+-- the forms of numbers
+pub data IsNumber : Class → Type 0 where
   zero_class : IsNumber class.Zero
   one_class : IsNumber class.One
   natural_class : IsNumber class.Natural
@@ -81,7 +83,7 @@ cond_number : (b : Bool) (c d : Class) → IsNumber c → IsNumber d → IsNumbe
 cond_number true c d i j = i
 cond_number false c d i j = j
 
-number_is : (bs : List ℕ) (z : ℤ) → IsNumber (number_class bs z)
+pub number_is : (bs : List ℕ) (z : ℤ) → IsNumber (number_class bs z)
 number_is [] z = sign_number z
 number_is (b ∷ []) z = cond_number _ _ _ zero_class (cond_number _ _ _ one_class (sign_number z))
 number_is (b ∷ c ∷ bs) z = sign_number z
