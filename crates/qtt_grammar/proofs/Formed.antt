@@ -1,6 +1,5 @@
 -- What the grammar asks of a tree, and how many nesting levels its printed form takes.
-use Rattle.std.proofs.Common.{◌≡◌, ℕ, zero, suc, ◌+◌, ◌≤◌, max, ℤ, Bool, true, false, cond, List, [], ◌∷◌, None}
-use Rattle.qtt_base.specs.declared.place.Span.{Span}
+use Rattle.std.proofs.Common.{◌≡◌, ℕ, suc, ◌≤◌, max, Bool, true, false, cond, List, [], ◌∷◌, None}
 use Rattle.qtt_base.specs.declared.limits.Quantity.TheVariants as quantity
 use Rattle.qtt_usage.specs.declared.mult.Mult.{Mult}
 use Rattle.qtt_usage.specs.declared.mult.Mult.TheVariants.{Zero, One, Many}
@@ -28,12 +27,12 @@ use Rattle.qtt_syntax.specs.Printing.{is_atom, is_app, is_arrow, is_empty}
 use Rattle.qtt_grammar.specs.declared.class.Class.{Class}
 use Rattle.qtt_grammar.specs.declared.class.Class.TheVariants as class
 use Rattle.qtt_grammar.specs.declared.class.Pass.{Pass}
-use Rattle.qtt_grammar.specs.Classes.{same, is_name, is_simple, is_bname, is_big, is_constructor, is_number, is_bound_or_name}
-use Rattle.qtt_grammar.specs.Lexeme.{Lexeme, type_lexeme, text_lexeme}
-use Rattle.qtt_grammar.specs.Limits.{is_full, excess_of, number_of}
-use Rattle.qtt_grammar.specs.Grammar.{ends_in_hole, statement_in_hole, standing_of, may_end, may_go, Place, start, clauses_before, next_place}
+use Rattle.qtt_grammar.specs.Classes.{same, is_name, is_simple, is_bname, is_big, is_constructor}
+use Rattle.qtt_grammar.specs.Lexeme.{type_lexeme, text_lexeme}
+use Rattle.qtt_grammar.specs.Limits.{is_full, excess_of}
+use Rattle.qtt_grammar.specs.Grammar.{ends_in_hole, standing_of, may_end, may_go, Place, start, clauses_before, next_place}
 use Rattle.qtt_grammar.specs.Grammar.Entry.{listed}
-use Rattle.qtt_grammar.specs.Sketch.{nowhere, named_class, word_lexeme}
+use Rattle.qtt_grammar.specs.Sketch.{nowhere, named_class}
 
 -- ---- nesting levels
 

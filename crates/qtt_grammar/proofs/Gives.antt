@@ -1,8 +1,8 @@
 -- What holds of all that a phrase says, where no limit is passed.
-use Rattle.std.proofs.Common.{◌≡◌, Bool, true, false, cond, List, [], ◌∷◌, ◌++◌, Option, Some, None, refl, sym, ap, ◌∙◌, subst, inl, inr, ◌⊎◌}
+use Rattle.std.proofs.Common.{◌≡◌, Bool, true, false, cond, List, [], ◌∷◌, ◌++◌, Option, None, refl, subst, inl, inr, ◌⊎◌}
 use Rattle.qtt_base.specs.declared.place.Span.{Span}
 use Rattle.qtt_base.specs.declared.limits.Quantity.{Quantity}
-use Rattle.qtt_phrase.specs.Phrase.{Weighed, Token, Chain, ◌then◌, Making, ◌or◌, Many, Run, Above, Perhaps, Placed, first, opens}
+use Rattle.qtt_phrase.specs.Phrase.{Weighed, Token, Chain, ◌then◌, Making, ◌or◌, Many, Run, Above, Perhaps, Placed, first}
 use Rattle.qtt_phrase.proofs.Exact.{opens_both}
 use Rattle.qtt_grammar.specs.declared.class.Class.{Class}
 use Rattle.qtt_grammar.specs.declared.class.Pass.{Pass}

@@ -1,5 +1,5 @@
 -- Modules are said by their printed words.
-use Rattle.std.proofs.Common.{◌≡◌, ℕ, zero, suc, ◌≤◌, pos, Bool, true, false, cond, List, [], ◌∷◌, ◌++◌, map, Option, Some, None, refl, sym, ap, ◌∙◌, subst, arith, append_assoc, codes}
+use Rattle.std.proofs.Common.{◌≡◌, ℕ, suc, ◌≤◌, pos, Bool, true, false, List, [], ◌∷◌, ◌++◌, map, None, refl, sym, ap, ◌∙◌, subst, append_assoc, codes}
 use Rattle.std.specs.Fmt.{digits}
 use Rattle.qtt_base.specs.declared.place.Span.{Span}
 use Rattle.qtt_base.specs.declared.limits.Quantity.TheVariants as quantity
@@ -7,8 +7,7 @@ use Rattle.qtt_usage.specs.declared.mult.Mult.{Mult}
 use Rattle.qtt_usage.specs.declared.mult.Mult.TheVariants as mult
 use Rattle.qtt_syntax.specs.declared.expr.Local.{Local}
 use Rattle.qtt_syntax.specs.declared.module.Import.{Import}
-use Rattle.qtt_syntax.specs.Tree.{Tree, Shape, Shapes, Param, Con, Item, Module, shapes}
-use Rattle.qtt_syntax.specs.Tree.Shapes.{shape_and}
+use Rattle.qtt_syntax.specs.Tree.{Tree, Shape, Param, Con, Item, Module, shapes}
 use Rattle.qtt_syntax.specs.Tree.Param.{param}
 use Rattle.qtt_syntax.specs.Tree.Con.{con}
 use Rattle.qtt_syntax.specs.Tree.Item.{family, signature, clause}
@@ -16,21 +15,19 @@ use Rattle.qtt_syntax.specs.Tree.Module.{module_text}
 use Rattle.qtt_syntax.specs.Words.{Word, Printed}
 use Rattle.qtt_syntax.specs.Printing as print
 use Rattle.qtt_syntax.specs.Printing.{parted, ends_open}
-use Rattle.qtt_phrase.specs.Phrase.{◌then◌, ◌or◌, Token, Making, Run, Perhaps, Above, opens}
-use Rattle.qtt_grammar.specs.declared.class.Class.{Class}
+use Rattle.qtt_phrase.specs.Phrase.{◌then◌, Token, Making, Run, Above, opens}
 use Rattle.qtt_grammar.specs.declared.class.Class.TheVariants as class
 use Rattle.qtt_grammar.specs.declared.class.Pass.{Pass}
-use Rattle.qtt_grammar.specs.declared.stop.Excess.{Excess}
 use Rattle.qtt_grammar.specs.Classes.{is_open, is_next, is_close, is_module, is_import, is_data, is_where, is_partial, is_zero, is_left_paren, is_right_paren, is_colon, is_equals, is_name, is_simple, is_big}
 use Rattle.qtt_grammar.specs.Lexeme.{Lexeme}
 use Rattle.qtt_grammar.specs.Limits.{is_full, one_above}
-use Rattle.qtt_grammar.specs.Grammar.{Says, of, place, Level, Symbol, IsZero, mult_of, Counted, Up_to, ends_in_hole, Place, Entry, start, clauses_before, next_place, param_of, con_of, next_con_of, cons_of, family_of, partial_of, erased_of, signature_of, clause_of, second, import_of, imports_of, items_of, module_of, IsParam, IsCon, Cons, IsFamily, Partial, Erased, Signing, Equation, Clause, Defining, IsItem, IsImport, IsEntry, IsModule, Shape_of}
+use Rattle.qtt_grammar.specs.Grammar.{Says, of, place, Level, Symbol, IsZero, mult_of, Counted, Up_to, Place, Entry, start, clauses_before, next_place, param_of, con_of, next_con_of, cons_of, family_of, partial_of, erased_of, signature_of, clause_of, second, import_of, imports_of, items_of, module_of, IsParam, IsCon, Cons, Equation, IsItem, IsEntry, IsModule, Shape_of}
 use Rattle.qtt_grammar.specs.Grammar.Entry.{imported, listed}
-use Rattle.qtt_grammar.specs.Sketch.{nowhere, unplaced, named_class, sketched}
+use Rattle.qtt_grammar.specs.Sketch.{nowhere, named_class, sketched}
 use Rattle.qtt_grammar.specs.Unplaced.{bare, bare_local, bare_shape, bare_shapes, bare_param, bare_con, bare_item, bare_import, bare_module}
-use Rattle.qtt_grammar.proofs.Prints.{Prints, words_are, value_is, token, chain, ◌then_prints◌, made, first_of, second_of, nothing, something, run_none, run_more}
+use Rattle.qtt_grammar.proofs.Prints.{Prints, token, chain, ◌then_prints◌, made, first_of, second_of, nothing, something, run_none, run_more}
 use Rattle.qtt_grammar.proofs.Tokens.{symbol, opening, local_named, locally}
-use Rattle.qtt_grammar.proofs.Saying.{mark, named, numeral, say, say_mark, say_typed, say_shape, say_shapes, sketched-append, sketched-parted, sketched-marked, sketched-binding, says, says_shapes}
+use Rattle.qtt_grammar.proofs.Saying.{mark, named, numeral, say, say_mark, say_typed, say_shapes, sketched-append, sketched-parted, sketched-marked, sketched-binding, says, says_shapes}
 use Rattle.qtt_grammar.proofs.Formed as formed
 use Rattle.qtt_grammar.proofs.Formed.{need, need_shapes}
 use Rattle.qtt_grammar.proofs.Forms.{Same}

@@ -1,12 +1,11 @@
 -- The names of each text have the forms of their spellings.
-use Rattle.std.proofs.Common.{◌≡◌, ℕ, ℤ, pos, negsuc, Bool, true, false, cond, nat_eq, ◌==◌, List, [], ◌∷◌, ◌++◌, Option, Some, None, unwrap_or, refl, sym, ap, ◌∙◌, subst, codes}
+use Rattle.std.proofs.Common.{◌≡◌, ℕ, Bool, true, false, cond, nat_eq, List, [], ◌∷◌, Option, Some, None, unwrap_or, refl, sym, ap, subst}
 use Rattle.std.specs.Cmp.Lexicographic.{pointwise}
 use Rattle.std.specs.Str.{encode_utf8_all}
 use Rattle.qtt_base.specs.declared.place.Span.{Span}
 use Rattle.qtt_lexer.specs.Piece.{listed, reserved, reserved_words, pairs, singles}
 use Rattle.qtt_lexer.specs.Place.{place_after}
-use Rattle.qtt_lexer.specs.Lexed.{token}
-use Rattle.qtt_lexer.specs.Forms.{IsToken, IsPart, Cut, IsLongest, AreLongest, with_token, tokens_of, IsText}
+use Rattle.qtt_lexer.specs.Forms.{IsToken, IsPart, Cut, AreLongest, with_token, tokens_of, IsText}
 use Rattle.qtt_lexer.specs.Forms.IsToken.{word, hole, number, negative, text, one, two}
 use Rattle.qtt_lexer.specs.declared.place.Place.{Place}
 use Rattle.qtt_lexer.specs.declared.token.Token.{Token}
@@ -21,7 +20,7 @@ use Rattle.qtt_layout.specs.declared.laid.Laid.TheVariants as laid
 use Rattle.qtt_grammar.specs.declared.class.Class.{Class}
 use Rattle.qtt_grammar.specs.declared.class.Class.TheVariants as class
 use Rattle.qtt_grammar.specs.Classes.{is_bound_or_name}
-use Rattle.qtt_grammar.specs.Lexeme.{Lexeme, name_class, sign_class, number_class, token_lexeme, lexeme_of, takes_number, joined, lexemes}
+use Rattle.qtt_grammar.specs.Lexeme.{Lexeme, name_class, number_class, token_lexeme, lexeme_of, takes_number, joined, lexemes}
 use Rattle.qtt_grammar.specs.Sketch.{named_class}
 use Rattle.qtt_grammar.specs.Spelled.{HasForm, HaveForms}
 use Rattle.qtt_grammar.proofs.Gives.{Each}

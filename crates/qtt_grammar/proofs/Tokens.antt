@@ -1,5 +1,5 @@
 -- Single printed words, read back.
-use Rattle.std.proofs.Common.{◌≡◌, ℕ, zero, suc, ℤ, pos, negsuc, Bool, true, false, cond, ◌&&◌, ◌==◌, eqb, List, [], ◌∷◌, ◌++◌, Option, Some, None, refl, sym, ap, ◌∙◌, subst, inl, inr, codes}
+use Rattle.std.proofs.Common.{◌≡◌, ℕ, ℤ, pos, negsuc, Bool, true, false, cond, List, [], ◌∷◌, Some, None, refl, ap, ◌∙◌}
 use Rattle.std.specs.Fmt.{digits, signed_decimal}
 use Rattle.qtt_base.specs.declared.place.Span.{Span}
 use Rattle.qtt_usage.specs.declared.mult.Mult.{Mult}
@@ -8,18 +8,16 @@ use Rattle.qtt_syntax.specs.declared.expr.Target.TheVariants.{Unknown}
 use Rattle.qtt_syntax.specs.declared.expr.Named as named_code
 use Rattle.qtt_syntax.specs.declared.expr.Local.{Local}
 use Rattle.qtt_syntax.specs.Tree.{Tree}
-use Rattle.qtt_syntax.specs.Tree.Tree.{name, number, text, universe, hole}
-use Rattle.qtt_syntax.specs.Words.{Word}
-use Rattle.qtt_phrase.specs.Phrase.{Weighed, Token, ◌or◌, Making, Perhaps, opens}
+use Rattle.qtt_syntax.specs.Tree.Tree.{name, number, text, universe}
+use Rattle.qtt_phrase.specs.Phrase.{Weighed, Token}
 use Rattle.qtt_grammar.specs.declared.class.Class.{Class}
 use Rattle.qtt_grammar.specs.declared.class.Class.TheVariants as class
 use Rattle.qtt_grammar.specs.declared.class.Pass.{Pass}
-use Rattle.qtt_grammar.specs.declared.stop.Excess.{Excess}
-use Rattle.qtt_grammar.specs.Classes.{is_name, is_word, is_digit, is_zero}
+use Rattle.qtt_grammar.specs.Classes.{is_word, is_digit, is_zero}
 use Rattle.qtt_grammar.specs.Lexeme.{Lexeme, type_lexeme, text_lexeme, number_class, sign_class}
-use Rattle.qtt_grammar.specs.Limits.{word_excess, excess_of, number_of}
-use Rattle.qtt_grammar.specs.Grammar.{Says, of, place, Symbol, Opening, Locally, IsMark, IsZero, local_of, named_of, mult_of, word_of}
-use Rattle.qtt_grammar.specs.Sketch.{nowhere, unplaced, named_class, word_lexeme}
+use Rattle.qtt_grammar.specs.Limits.{word_excess, excess_of}
+use Rattle.qtt_grammar.specs.Grammar.{of, place, Symbol, Opening, Locally, IsMark, local_of, named_of, mult_of, word_of}
+use Rattle.qtt_grammar.specs.Sketch.{nowhere, unplaced, named_class}
 use Rattle.qtt_grammar.specs.Unplaced.{bare, bare_named, bare_local}
 use Rattle.qtt_grammar.proofs.Prints.{Prints, token, weighed, something, nothing}
 use Rattle.qtt_grammar.proofs.Saying.{mark, named, numeral, say_mark}
