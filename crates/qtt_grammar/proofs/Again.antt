@@ -1,16 +1,16 @@
 -- The printed words of a text's tree say the same tree.
-use Rattle.std.proofs.Common.{◌≡◌, ℕ, suc, List, [], ◌∷◌, map, Option, None, refl, sym, ◌∙◌, subst, codes}
+use Rattle.std.proofs.Common.{◌≡◌, ℕ, List, [], ◌∷◌, map, None, sym, ◌∙◌, subst, codes}
 use Rattle.qtt_syntax.specs.Tree.{Module}
 use Rattle.qtt_syntax.specs.Words.{Word}
 use Rattle.qtt_syntax.specs.Printing.{module_words}
 use Rattle.qtt_grammar.specs.declared.class.Pass.{Pass}
 use Rattle.qtt_grammar.specs.Lexeme.{Lexeme}
-use Rattle.qtt_grammar.specs.Grammar.{Says, Level, Shape_of, IsModule, IsText, levels}
+use Rattle.qtt_grammar.specs.Grammar.{Level, Shape_of, IsModule, IsText, levels}
 use Rattle.qtt_grammar.specs.Sketch.{unplaced, sketched}
 use Rattle.qtt_grammar.specs.Spelled.{HaveForms}
 use Rattle.qtt_grammar.specs.Unplaced.{bare_module}
 use Rattle.qtt_grammar.proofs.Prints.{Prints}
-use Rattle.qtt_grammar.proofs.Gives.{Each, Gives}
+use Rattle.qtt_grammar.proofs.Gives.{Each}
 use Rattle.qtt_grammar.proofs.Formed as formed
 use Rattle.qtt_grammar.proofs.Allowed.{IsFair, levels_hold}
 use Rattle.qtt_grammar.proofs.ItemsAllowed.{module_holds}

@@ -1,42 +1,34 @@
 -- The trees that the grammar gives have the forms that it asks, and take no more levels than there are.
-use Rattle.std.proofs.Common.{◌≡◌, ℕ, zero, suc, ◌+◌, ◌≤◌, max, pos, ℤ, Bool, true, false, cond, List, [], ◌∷◌, ◌++◌, Option, Some, None, refl, sym, ap, ◌∙◌, subst, arith, codes}
+use Rattle.std.proofs.Common.{◌≡◌, ℕ, zero, suc, ◌+◌, ◌≤◌, Bool, true, false, cond, List, [], ◌∷◌, ◌++◌, Option, Some, None, refl, ap, ◌∙◌, arith, codes}
 use Rattle.qtt_base.specs.declared.place.Span.{Span}
 use Rattle.qtt_base.specs.declared.limits.Quantity.TheVariants as quantity
-use Rattle.qtt_usage.specs.declared.mult.Mult.{Mult}
 use Rattle.qtt_usage.specs.declared.mult.Mult.TheVariants as mult
 use Rattle.qtt_syntax.specs.declared.expr.Mark.TheVariants.{Written, Braced, Inserted}
 use Rattle.qtt_syntax.specs.declared.expr.Target.TheVariants.{Unknown}
 use Rattle.qtt_syntax.specs.declared.expr.Named as named_code
-use Rattle.qtt_syntax.specs.declared.expr.Local.{Local}
 use Rattle.qtt_syntax.specs.Tree as tree
-use Rattle.qtt_syntax.specs.Tree.{Tree, Annotation, Arguments, Binder, Binders, Statement, Statements, Shape, arguments, binders, statements, shapes}
-use Rattle.qtt_syntax.specs.Tree.Shape.{variable, wildcard, constructor, dot}
-use Rattle.qtt_syntax.specs.Tree.Shapes.{no_shape, shape_and}
+use Rattle.qtt_syntax.specs.Tree.{Tree, Binder, Statement, Shape, arguments, binders, statements, shapes}
 use Rattle.qtt_syntax.specs.Tree.Tree.{name, number, text, universe, hole, the, apply, pi, lambda, letting, doing}
-use Rattle.qtt_syntax.specs.Tree.Annotation.{untyped, typed}
+use Rattle.qtt_syntax.specs.Tree.Annotation.{untyped}
 use Rattle.qtt_syntax.specs.Tree.Argument.{argument}
-use Rattle.qtt_syntax.specs.Tree.Arguments.{no_argument, argument_and}
 use Rattle.qtt_syntax.specs.Tree.Binder.{plain, typed_binder}
-use Rattle.qtt_syntax.specs.Tree.Binders.{no_binder, binder_and}
-use Rattle.qtt_syntax.specs.Tree.Statement.{bind, local, run}
-use Rattle.qtt_syntax.specs.Tree.Statements.{no_statement, statement_and}
 use Rattle.qtt_syntax.specs.Words.{Word}
 use Rattle.qtt_syntax.specs.Printing.{is_atom, is_app, is_arrow as is_unnamed}
-use Rattle.qtt_phrase.specs.Phrase.{◌then◌, ◌or◌, Making, Many, Some_of, Perhaps, Placed, Token, Weighed, opens}
+use Rattle.qtt_phrase.specs.Phrase.{◌then◌, Making, Perhaps, Token, opens}
 use Rattle.qtt_phrase.proofs.Exact.{opens_both, Among}
 use Rattle.qtt_grammar.specs.declared.class.Class.{Class}
 use Rattle.qtt_grammar.specs.declared.class.Class.TheVariants as class
 use Rattle.qtt_grammar.specs.declared.class.Pass.{Pass}
-use Rattle.qtt_grammar.specs.declared.class.Standing.{Standing}
 use Rattle.qtt_grammar.specs.Classes.{is_open, is_next, is_close, is_do, is_let, is_in, is_the, is_zero, is_hole, is_left_paren, is_right_paren, is_arrow, is_left_arrow, is_fat_arrow, is_colon, is_equals, is_backslash, is_left_brace, is_right_brace, is_name, is_simple, is_bname, is_word, is_digit, is_number, is_bound_or_name, same, is_constructor, is_pattern_word, is_dot_paren}
-use Rattle.qtt_grammar.specs.Lexeme.{Lexeme, type_lexeme, text_lexeme}
+use Rattle.qtt_grammar.specs.Lexeme.{Lexeme}
 use Rattle.qtt_grammar.specs.Limits.{is_full, excess_of, number_of, word_excess}
 use Rattle.qtt_grammar.specs.Grammar as grammar
-use Rattle.qtt_grammar.specs.Grammar.{Says, of, place, Level, Symbol, Opening, Locally, IsMark, local_of, named_of, mult_of, word_of, typed_of, lambda_of, annotation_of, let_parts, LetParts, let_of, after_in, let_statement_of, bind_of, run_of, next_of, do_of, bracket_of, braced_of, written_of, the_of, app_of, named_app_of, other_app_of, behind_of, arrow_of, pi_of, implicit_of, ends_in_hole, statement_in_hole, last_in_hole, standing_of, may_end, may_go, next_line, Line, Typed, IsBinder, Lambda, IsAnnotation, LetHead, Letting, Lines, Block, Doing, Bracket, OtherAtom, IsAtom, Atoms, Brace, The, NamedApp, OtherApp, IsApp, Arrow, Pi, Hole, OtherExpr, IsExpr, LetStatement, Binding, IsStatement, Implicit, IsTyping, Counted, pattern_word, group_of, nested_of, bracketed_of, dot_of, bare_of, Bracketed, Dot, OtherPattern, IsPattern, Shape_of, Simple_level, levels}
-use Rattle.qtt_grammar.specs.Sketch.{nowhere, named_class}
+use Rattle.qtt_grammar.specs.Grammar.{Says, of, place, Level, Symbol, Locally, IsMark, local_of, named_of, mult_of, word_of, typed_of, lambda_of, annotation_of, let_parts, LetParts, let_of, after_in, let_statement_of, bind_of, run_of, next_of, do_of, bracket_of, braced_of, written_of, the_of, app_of, named_app_of, other_app_of, behind_of, arrow_of, pi_of, implicit_of, ends_in_hole, statement_in_hole, last_in_hole, standing_of, may_end, may_go, next_line, Line, Typed, IsBinder, Lambda, IsAnnotation, LetHead, Letting, Lines, Doing, Bracket, OtherAtom, IsAtom, Atoms, Brace, The, NamedApp, OtherApp, IsApp, Arrow, Pi, Hole, OtherExpr, IsExpr, IsStatement, Implicit, IsTyping, Counted, pattern_word, group_of, nested_of, bracketed_of, dot_of, bare_of, Bracketed, Dot, OtherPattern, IsPattern, Shape_of, Simple_level, levels}
+use Rattle.qtt_grammar.specs.Sketch.{named_class}
 use Rattle.qtt_grammar.proofs.Decide.{among}
+use Rattle.qtt_grammar.proofs.Tokens.{excess_case}
 use Rattle.qtt_grammar.proofs.Formed as formed
-use Rattle.qtt_grammar.proofs.Formed.{wrapped_need, domain_need, need, need_annotation, need_arguments, need_argument, need_binders, need_binder, need_statements, need_statement, need_shape, need_shapes}
+use Rattle.qtt_grammar.proofs.Formed.{wrapped_need, need, need_annotation, need_arguments, need_binders, need_binder, need_statements, need_statement, need_shape, need_shapes}
 use Rattle.qtt_grammar.proofs.Gives.{Each, Along, Gives, weighed_gives, token_gives, chain_gives, ◌then_gives◌, made_gives, ◌or_gives◌, many_gives, run_gives, perhaps_gives, placed_gives, wider_gives, opened_gives, up_to_gives}
 
 -- a token's form is that of its spelling, and its word can be written
@@ -75,10 +67,6 @@ domain_most : (b c : Bool) (k l : ℕ) → suc k ≤ l → cond b (wrapped_need 
 domain_most true c k l h = wrapped_most c k l h
 domain_most false c k l h = h
 
-excess_nowhere_case : {F : Type 0} (b : Bool) (f g : F) → cond b (Some f) None ≡ None → cond b (Some g) None ≡ None
-excess_nowhere_case true f g e = absurd cc
-excess_nowhere_case false f g e = refl
-
 pub plain_case : (b : Bool) → (b ≡ true → false ≡ true) → b ≡ false
 plain_case true h = absurd (let e = h refl in cc)
 plain_case false h = refl
@@ -94,7 +82,7 @@ module _ (Fit : Word → Type 0) (wild : Fit (Word.named (codes "_"))) (pass : P
   Formed = formed.Formed Fit pass
 
   abbrev pub Plain : Tree → Type 0
-  Plain = formed.Plain Fit pass
+  Plain = formed.Plain
 
   abbrev pub Named : (Class → Bool) → List ℕ → Type 0
   Named = formed.Named Fit pass
@@ -144,8 +132,8 @@ module _ (Fit : Word → Type 0) (wild : Fit (Word.named (codes "_"))) (pass : P
   word_formed class.One x l e w o f = (f.number (ap is_number e), (refl, omega arith))
   word_formed class.Natural x l e w o f = (f.number (ap is_number e), (refl, omega arith))
   word_formed class.Negative x l e w o f = (f.number (ap is_number e), (refl, omega arith))
-  word_formed class.Text x l e w o f = ((excess_nowhere_case _ _ _ o, f.text e), (refl, omega arith))
-  word_formed class.Universe x l e w o f = ((excess_nowhere_case _ _ _ o, f.level e), (refl, omega arith))
+  word_formed class.Text x l e w o f = ((excess_case _ _ _ o, f.text e), (refl, omega arith))
+  word_formed class.Universe x l e w o f = ((excess_case _ _ _ o, f.level e), (refl, omega arith))
   word_formed _ x l e w o f = absurd cc
 
   -- ---- the level inside
@@ -172,13 +160,13 @@ module _ (Fit : Word → Type 0) (wild : Fit (Word.named (codes "_"))) (pass : P
 
   written_fit : (b : Bool) (l : ℕ) (args : List tree.Argument) → Each (Written_argument l) args → Arguments_fit b l args
   written_fit b l [] e = (tt, omega arith)
-  written_fit b l (a ∷ more) ((t, (is, f)), e) = let rest = written_fit false l more e in rw is ((( f.0, f.1.0), rest.0), omega (arith, f.1.1, rest.1))
+  written_fit b l (a ∷ more) ((t, (is, f)), e) = let rest = written_fit false l more e in rw is (((f.0, f.1.0), rest.0), omega (arith, f.1.1, rest.1))
 
   braced_fit : (l : ℕ) (braces atoms : List tree.Argument) → Each (Braced_argument l) braces → Each (Written_argument l) atoms → Arguments_fit true l (braces ++ atoms)
   braced_fit l [] atoms e f = written_fit true l atoms f
   braced_fit l (a ∷ more) atoms ((t, (is, g)), e) f = let rest = braced_fit l more atoms e f in rw is ((refl, ((g.0, plain_of l t g), rest.0)), omega (arith, g.1.1, rest.1))
 
-  app_fits : (l : ℕ) (s : Span) (f : Tree) (args : List tree.Argument) → Atomic l f → Arguments_fit (formed.is_named Fit pass f) l args → Applied l (app_of s f args)
+  app_fits : (l : ℕ) (s : Span) (f : Tree) (args : List tree.Argument) → Atomic l f → Arguments_fit (formed.is_named f) l args → Applied l (app_of s f args)
   app_fits l s f [] h g = (h.0, (h.1.0, app_least f (need f) l h.1.1))
   app_fits l s f (a ∷ more) h g = (((h.0, h.1.0), (refl, g.0)), (refl, omega (arith, h.1.1, g.1)))
 
@@ -316,7 +304,7 @@ module _ (Fit : Word → Type 0) (wild : Fit (Word.named (codes "_"))) (pass : P
     named_app_holds = made_gives named_app_of (named_token is_name name_named then_gives many_gives brace_holds then_gives atoms_hold) (λ a r. app_fits l a.0.span (name a.0) (a.1.0 ++ a.1.1) (r.0, (refl, omega arith)) (braced_fit l a.1.0 a.1.1 r.1.0 r.1.1))
 
     other_app_holds : Holds (OtherApp pass may inner) (Applied l)
-    other_app_holds = made_gives other_app_of (placed_gives (other_atom_holds then_gives atoms_hold)) (λ a r. app_fits l a.0 a.1.0 a.1.1 r.0 (written_fit (formed.is_named Fit pass a.1.0) l a.1.1 r.1))
+    other_app_holds = made_gives other_app_of (placed_gives (other_atom_holds then_gives atoms_hold)) (λ a r. app_fits l a.0 a.1.0 a.1.1 r.0 (written_fit (formed.is_named a.1.0) l a.1.1 r.1))
 
     app_holds : Holds (IsApp pass may inner) (Applied l)
     app_holds = the_holds or_gives named_app_holds or_gives other_app_holds

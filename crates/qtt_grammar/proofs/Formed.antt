@@ -1,6 +1,5 @@
 -- What the grammar asks of a tree, and how many nesting levels its printed form takes.
-use Rattle.std.proofs.Common.{◌≡◌, ℕ, zero, suc, ◌+◌, ◌≤◌, max, ℤ, Bool, true, false, cond, List, [], ◌∷◌, None}
-use Rattle.qtt_base.specs.declared.place.Span.{Span}
+use Rattle.std.proofs.Common.{◌≡◌, ℕ, suc, ◌≤◌, max, Bool, true, false, cond, List, [], ◌∷◌, None}
 use Rattle.qtt_base.specs.declared.limits.Quantity.TheVariants as quantity
 use Rattle.qtt_usage.specs.declared.mult.Mult.{Mult}
 use Rattle.qtt_usage.specs.declared.mult.Mult.TheVariants.{Zero, One, Many}
@@ -28,12 +27,12 @@ use Rattle.qtt_syntax.specs.Printing.{is_atom, is_app, is_arrow, is_empty}
 use Rattle.qtt_grammar.specs.declared.class.Class.{Class}
 use Rattle.qtt_grammar.specs.declared.class.Class.TheVariants as class
 use Rattle.qtt_grammar.specs.declared.class.Pass.{Pass}
-use Rattle.qtt_grammar.specs.Classes.{same, is_name, is_simple, is_bname, is_big, is_constructor, is_number, is_bound_or_name}
-use Rattle.qtt_grammar.specs.Lexeme.{Lexeme, type_lexeme, text_lexeme}
-use Rattle.qtt_grammar.specs.Limits.{is_full, excess_of, number_of}
-use Rattle.qtt_grammar.specs.Grammar.{ends_in_hole, statement_in_hole, standing_of, may_end, may_go, Place, start, clauses_before, next_place}
+use Rattle.qtt_grammar.specs.Classes.{same, is_name, is_simple, is_bname, is_big, is_constructor}
+use Rattle.qtt_grammar.specs.Lexeme.{type_lexeme, text_lexeme}
+use Rattle.qtt_grammar.specs.Limits.{is_full, excess_of}
+use Rattle.qtt_grammar.specs.Grammar.{ends_in_hole, standing_of, may_end, may_go, Place, start, clauses_before, next_place}
 use Rattle.qtt_grammar.specs.Grammar.Entry.{listed}
-use Rattle.qtt_grammar.specs.Sketch.{nowhere, named_class, word_lexeme}
+use Rattle.qtt_grammar.specs.Sketch.{nowhere, named_class}
 
 -- ---- nesting levels
 
@@ -103,26 +102,31 @@ abbrev mutual
 
 -- ---- forms
 
+-- no hole ends the tree
+abbrev pub Plain : Tree → Type 0
+Plain t = ends_in_hole t ≡ false
+
+abbrev pub is_named : Tree → Bool
+is_named (name n) = true
+is_named _ = false
+
+abbrev pub some_argument : Arguments → Bool
+some_argument no_argument = false
+some_argument (argument_and a more) = true
+
+abbrev pub some_binder : Binders → Bool
+some_binder no_binder = false
+some_binder (binder_and b more) = true
+
+abbrev pub is_zero_or_many : Mult → Bool
+is_zero_or_many Zero = true
+is_zero_or_many One = false
+is_zero_or_many Many = true
+
 module _ (Fit : Word → Type 0) (pass : Pass) where
   -- a name of this form
   abbrev pub Named : (Class → Bool) → List ℕ → Type 0
   Named is n = (is (named_class n) ≡ true) × Fit (Word.named n)
-
-  -- no hole ends the tree
-  abbrev pub Plain : Tree → Type 0
-  Plain t = ends_in_hole t ≡ false
-
-  abbrev pub is_named : Tree → Bool
-  is_named (name n) = true
-  is_named _ = false
-
-  abbrev pub some_argument : Arguments → Bool
-  some_argument no_argument = false
-  some_argument (argument_and a more) = true
-
-  abbrev pub some_binder : Binders → Bool
-  some_binder no_binder = false
-  some_binder (binder_and b more) = true
 
   abbrev mutual
     pub Formed : Tree → Type 0
@@ -187,11 +191,6 @@ module _ (Fit : Word → Type 0) (pass : Pass) where
     Shapes_formed n (shape_and p more) = (is_full pass quantity.Parts n ≡ false) × (Shape_formed p × Shapes_formed (suc n) more)
 
   -- ---- items, of which the outermost level has so many levels inside, and a level inside it so many
-
-  abbrev pub is_zero_or_many : Mult → Bool
-  is_zero_or_many Zero = true
-  is_zero_or_many One = false
-  is_zero_or_many Many = true
 
   abbrev pub Within_levels : ℕ → Tree → Type 0
   Within_levels l t = (Formed t × Plain t) × (need t ≤ l)

@@ -1,5 +1,5 @@
 -- The productions of a level, each said by its printed words where its parts are.
-use Rattle.std.proofs.Common.{◌≡◌, ℕ, zero, suc, pos, Bool, true, false, cond, List, [], ◌∷◌, ◌++◌, Option, Some, None, refl, sym, ap, ◌∙◌, subst, inl, inr, codes, eqb, ◌&&◌}
+use Rattle.std.proofs.Common.{◌≡◌, ℕ, pos, Bool, true, false, List, [], ◌∷◌, ◌++◌, Option, Some, None, refl, sym, ap, ◌∙◌, codes, eqb}
 use Rattle.std.proofs.lemmas.List.{append-nil}
 use Rattle.std.proofs.lemmas.Slice.Eq.{bytes_eq-Decides}
 use Rattle.std.specs.Cmp.Lexicographic.{pointwise}
@@ -12,25 +12,21 @@ use Rattle.qtt_syntax.specs.declared.expr.Named as named_code
 use Rattle.qtt_syntax.specs.declared.expr.Local.{Local}
 use Rattle.qtt_syntax.specs.Tree as tree
 use Rattle.qtt_syntax.specs.Tree.{Tree, Annotation, Arguments, Binder, Binders, Statement, Statements, arguments, binders, statements}
-use Rattle.qtt_syntax.specs.Tree.Tree.{name, number, text, universe, hole, the, apply, pi, lambda, letting, doing}
+use Rattle.qtt_syntax.specs.Tree.Tree.{name, the, apply, pi, lambda, letting, doing}
 use Rattle.qtt_syntax.specs.Tree.Annotation.{untyped, typed}
 use Rattle.qtt_syntax.specs.Tree.Argument.{argument}
 use Rattle.qtt_syntax.specs.Tree.Arguments.{no_argument, argument_and}
 use Rattle.qtt_syntax.specs.Tree.Binder.{plain, typed_binder}
-use Rattle.qtt_syntax.specs.Tree.Binders.{no_binder, binder_and}
 use Rattle.qtt_syntax.specs.Tree.Statement.{bind, local, run}
-use Rattle.qtt_syntax.specs.Words.{Word}
-use Rattle.qtt_phrase.specs.Phrase.{◌then◌, ◌or◌, Making, Many, Some_of, Perhaps, Placed}
-use Rattle.qtt_grammar.specs.declared.class.Class.{Class}
+use Rattle.qtt_phrase.specs.Phrase.{◌then◌, Many, Some_of, Placed}
 use Rattle.qtt_grammar.specs.declared.class.Class.TheVariants as class
 use Rattle.qtt_grammar.specs.declared.class.Pass.{Pass}
-use Rattle.qtt_grammar.specs.declared.stop.Excess.{Excess}
-use Rattle.qtt_grammar.specs.Classes.{is_open, is_next, is_close, is_do, is_let, is_in, is_the, is_hole, is_left_paren, is_right_paren, is_arrow, is_left_arrow, is_fat_arrow, is_colon, is_equals, is_backslash, is_left_brace, is_right_brace, is_name, is_simple, is_bname, is_word}
+use Rattle.qtt_grammar.specs.Classes.{is_open, is_close, is_do, is_let, is_in, is_the, is_left_paren, is_right_paren, is_arrow, is_left_arrow, is_fat_arrow, is_colon, is_equals, is_backslash, is_left_brace, is_right_brace, is_name, is_simple, is_bname}
 use Rattle.qtt_grammar.specs.Lexeme.{Lexeme}
-use Rattle.qtt_grammar.specs.Grammar.{Says, of, place, Level, typed_of, lambda_of, annotation_of, let_parts, LetParts, let_of, after_in, let_statement_of, bind_of, run_of, do_of, bracket_of, braced_of, written_of, the_of, app_of, named_app_of, other_app_of, behind_of, arrow_of, pi_of, implicit_of, Typed, IsBinder, Lambda, IsAnnotation, LetHead, Letting, Block, Doing, Bracket, OtherAtom, IsAtom, Atoms, Brace, The, NamedApp, OtherApp, IsApp, Arrow, Pi, Hole, OtherExpr, IsExpr, LetStatement, Binding, IsStatement, Implicit}
-use Rattle.qtt_grammar.specs.Sketch.{nowhere, unplaced, named_class, word_lexeme}
-use Rattle.qtt_grammar.specs.Unplaced.{bare, bare_named, bare_local, bare_annotation, bare_argument, bare_arguments, bare_binder, bare_binders, bare_statement, bare_statements}
-use Rattle.qtt_grammar.proofs.Prints.{Prints, words_are, value_is, token, chain, ◌then_prints◌, made, first_of, second_of, many_none, many_more, nothing, something, placed}
+use Rattle.qtt_grammar.specs.Grammar.{Says, place, Level, typed_of, lambda_of, annotation_of, let_parts, LetParts, let_of, after_in, let_statement_of, bind_of, run_of, do_of, bracket_of, braced_of, the_of, app_of, named_app_of, other_app_of, behind_of, arrow_of, pi_of, implicit_of, Typed, IsBinder, Lambda, IsAnnotation, LetHead, Letting, Block, Doing, Bracket, OtherAtom, IsAtom, Atoms, Brace, IsApp, Arrow, Pi, OtherExpr, IsExpr, IsStatement, Implicit}
+use Rattle.qtt_grammar.specs.Sketch.{nowhere, named_class}
+use Rattle.qtt_grammar.specs.Unplaced.{bare, bare_local, bare_annotation, bare_argument, bare_arguments, bare_binder, bare_binders, bare_statement, bare_statements}
+use Rattle.qtt_grammar.proofs.Prints.{Prints, words_are, ◌then_prints◌, made, first_of, second_of, many_none, nothing, something, placed}
 use Rattle.qtt_grammar.proofs.Tokens.{symbol, opening, local_named, locally, any_mark, zero_token, named_token}
 use Rattle.qtt_grammar.proofs.Saying.{mark, named, numeral, wrapped, say_mark, say_typed, say_braced}
 

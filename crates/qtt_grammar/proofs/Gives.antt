@@ -1,8 +1,8 @@
 -- What holds of all that a phrase says, where no limit is passed.
-use Rattle.std.proofs.Common.{◌≡◌, Bool, true, false, cond, List, [], ◌∷◌, ◌++◌, Option, Some, None, refl, sym, ap, ◌∙◌, subst, inl, inr, ◌⊎◌}
+use Rattle.std.proofs.Common.{◌≡◌, Bool, true, false, cond, List, [], ◌∷◌, ◌++◌, Option, None, refl, subst, inl, inr, ◌⊎◌}
 use Rattle.qtt_base.specs.declared.place.Span.{Span}
 use Rattle.qtt_base.specs.declared.limits.Quantity.{Quantity}
-use Rattle.qtt_phrase.specs.Phrase.{Weighed, Token, Chain, ◌then◌, Making, ◌or◌, Many, Run, Above, Perhaps, Placed, first, opens}
+use Rattle.qtt_phrase.specs.Phrase.{Weighed, Token, Chain, ◌then◌, Making, ◌or◌, Many, Run, Above, Perhaps, Placed, first}
 use Rattle.qtt_phrase.proofs.Exact.{opens_both}
 use Rattle.qtt_grammar.specs.declared.class.Class.{Class}
 use Rattle.qtt_grammar.specs.declared.class.Pass.{Pass}
@@ -10,6 +10,7 @@ use Rattle.qtt_grammar.specs.declared.stop.Excess.{Excess}
 use Rattle.qtt_grammar.specs.Lexeme.{Lexeme}
 use Rattle.qtt_grammar.specs.Limits.{is_full, one_above}
 use Rattle.qtt_grammar.specs.Grammar.{Says, of, place, Opening, Up_to}
+use Rattle.qtt_grammar.proofs.Prints.{first_none}
 
 -- it holds of each
 abbrev pub Each : {A : Type 0} → (A → Type 0) → List A → Type 0
@@ -19,10 +20,6 @@ Each R (a ∷ more) = R a × Each R more
 each_split : {A : Type 0} (R : A → Type 0) (us vs : List A) → Each R (us ++ vs) → Each R us × Each R vs
 each_split R [] vs e = (tt, e)
 each_split R (u ∷ us) vs e = let s = each_split R us vs e.1 in ((e.0, s.0), s.1)
-
-none_both : {F : Type 0} (p q : Option F) → first p q ≡ None → (p ≡ None) × (q ≡ None)
-none_both None q e = (refl, e)
-none_both (Some f) q e = absurd cc
 
 -- the same along a run
 abbrev pub Along : {A S : Type 0} → (S → Bool) → (S → Bool) → (S → A → S) → (S → A → Type 0) → S → List A → Type 0
@@ -45,7 +42,7 @@ module _ {Fair : Lexeme → Type 0} where
 
   chain_at : {A B : Type 0} {R : A → Type 0} {S : A → B → Type 0} (P : Says A) (Q : A → Says B) → Gives Fair P R → ((a : A) → R a → Gives Fair (Q a) (S a)) → (ls : List Lexeme) (c : A × B) → Each Fair ls → Chain P Q ls c None → R c.0 × S c.0 c.1
   chain_at P Q p q ls c fair (us, vs, o, r, parts, m, n, none) =
-      let both = none_both o r none in
+      let both = first_none o r none in
       let halves = each_split Fair us vs (subst (Each Fair) parts fair) in
       let first : _ = p.at us c.0 halves.0 (subst (λ (x : Option Excess). P us c.0 x) both.0 m) in
       (first, (q c.0 first).at vs c.1 halves.1 (subst (λ (x : Option Excess). Q c.0 vs c.1 x) both.1 n))
@@ -71,7 +68,7 @@ module _ {Fair : Lexeme → Type 0} where
   many_at : {A : Type 0} (P : Says A) (R : A → Type 0) → Gives Fair P R → (ls : List Lexeme) (l : List A) → Each Fair ls → Many P ls l None → Each R l
   many_at P R p ls [] fair d = tt
   many_at P R p ls (a ∷ l) fair (us, vs, o, r, parts, m, n, none) =
-      let both = none_both o r none in
+      let both = first_none o r none in
       let halves = each_split Fair us vs (subst (Each Fair) parts fair) in
       (p.at us a halves.0 (subst (λ (x : Option Excess). P us a x) both.0 m), many_at P R p vs l halves.1 (subst (λ (x : Option Excess). Many P vs l x) both.1 n))
 
@@ -81,7 +78,7 @@ module _ {Fair : Lexeme → Type 0} where
   run_at : {A S : Type 0} (ends goes : S → Bool) (next : S → A → S) (P : S → Says A) (R : S → A → Type 0) → ((s : S) → Gives Fair (P s) (R s)) → (s : S) (ls : List Lexeme) (l : List A) → Each Fair ls → Run ends goes next P s ls l None → Along ends goes next R s l
   run_at ends goes next P R p s ls [] fair d = d.1
   run_at ends goes next P R p s ls (a ∷ l) fair (us, vs, o, r, parts, g, m, n, none) =
-      let both = none_both o r none in
+      let both = first_none o r none in
       let halves = each_split Fair us vs (subst (Each Fair) parts fair) in
       (g, ((p s).at us a halves.0 (subst (λ (x : Option Excess). P s us a x) both.0 m), run_at ends goes next P R p (next s a) vs l halves.1 (subst (λ (x : Option Excess). Run ends goes next P (next s a) vs l x) both.1 n)))
 
@@ -107,7 +104,7 @@ module _ {Fair : Lexeme → Type 0} where
   -- where a level opens, one may
   opened_at : {B : Type 0} (may : Bool) (is : Class → Bool) (Q : Says B) (S : B → Type 0) → (may ≡ true → Gives Fair Q S) → (ls : List Lexeme) (c : Span × B) → Each Fair ls → (Opening may is then Q) ls c None → S c.1
   opened_at may is Q S q ls c fair (us, vs, o, r, parts, (x, alone, e, v, w), n, none) =
-      let both = none_both o r none in
+      let both = first_none o r none in
       let halves = each_split Fair us vs (subst (Each Fair) parts fair) in
       (q (opens_both may (of is x) e).0).at vs c.1 halves.1 (subst (λ (y : Option Excess). Q vs c.1 y) both.1 n)
 

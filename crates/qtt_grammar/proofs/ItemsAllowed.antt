@@ -1,32 +1,27 @@
 -- The modules that the grammar gives have the forms that it asks.
-use Rattle.std.proofs.Common.{◌≡◌, ℕ, zero, suc, ◌≤◌, Bool, true, false, cond, List, [], ◌∷◌, ◌++◌, Option, Some, None, refl, sym, ap, ◌∙◌, subst, arith, codes, ◌⊎◌}
+use Rattle.std.proofs.Common.{◌≡◌, ℕ, suc, ◌≤◌, Bool, true, false, cond, List, [], ◌∷◌, Some, None, refl, ap, arith, codes}
 use Rattle.qtt_base.specs.declared.place.Span.{Span}
 use Rattle.qtt_base.specs.declared.limits.Quantity.TheVariants as quantity
 use Rattle.qtt_usage.specs.declared.mult.Mult.{Mult}
 use Rattle.qtt_usage.specs.declared.mult.Mult.TheVariants as mult
 use Rattle.qtt_syntax.specs.declared.expr.Local.{Local}
-use Rattle.qtt_syntax.specs.declared.module.Import.{Import}
-use Rattle.qtt_syntax.specs.Tree.{Tree, Shape, Param, Con, Item, Module, shapes}
-use Rattle.qtt_syntax.specs.Tree.Param.{param}
-use Rattle.qtt_syntax.specs.Tree.Con.{con}
-use Rattle.qtt_syntax.specs.Tree.Item.{family, signature, clause}
-use Rattle.qtt_syntax.specs.Tree.Module.{module_text}
+use Rattle.qtt_syntax.specs.Tree.{Tree, Shape, Param, Con, Item, shapes}
+use Rattle.qtt_syntax.specs.Tree.Item.{clause}
 use Rattle.qtt_syntax.specs.Words.{Word}
-use Rattle.qtt_phrase.specs.Phrase.{◌then◌, ◌or◌, Making, Run, Perhaps, Token, Above, opens}
-use Rattle.qtt_phrase.proofs.Exact.{opens_both, Among}
+use Rattle.qtt_phrase.specs.Phrase.{◌or◌, Above, opens}
+use Rattle.qtt_phrase.proofs.Exact.{Among}
 use Rattle.qtt_grammar.specs.declared.class.Class.{Class}
 use Rattle.qtt_grammar.specs.declared.class.Pass.{Pass}
 use Rattle.qtt_grammar.specs.declared.stop.Excess.{Excess}
 use Rattle.qtt_grammar.specs.Classes.{is_open, is_next, is_close, is_module, is_import, is_data, is_where, is_partial, is_zero, is_left_paren, is_right_paren, is_colon, is_equals, is_name, is_simple, is_big, is_bound_or_name}
 use Rattle.qtt_grammar.specs.Lexeme.{Lexeme}
 use Rattle.qtt_grammar.specs.Limits.{is_full, one_above}
-use Rattle.qtt_grammar.specs.Grammar.{Says, of, place, Level, Symbol, Locally, IsZero, mult_of, Counted, Up_to, ends_in_hole, Place, Entry, start, clauses_before, next_place, param_of, con_of, next_con_of, cons_of, family_of, partial_of, erased_of, signature_of, clause_of, second, import_of, imports_of, items_of, module_of, IsParam, IsCon, Cons, IsFamily, Partial, Erased, Signing, Equation, Clause, Defining, IsItem, IsImport, IsEntry, IsModule}
+use Rattle.qtt_grammar.specs.Grammar.{Says, of, place, Level, Symbol, Locally, IsZero, mult_of, ends_in_hole, Place, Entry, start, clauses_before, next_place, param_of, con_of, next_con_of, cons_of, family_of, partial_of, erased_of, signature_of, clause_of, second, import_of, imports_of, items_of, module_of, IsParam, IsCon, Cons, IsFamily, Partial, Erased, Signing, Equation, Clause, Defining, IsItem, IsEntry, IsModule}
 use Rattle.qtt_grammar.specs.Grammar.Entry.{imported, listed}
-use Rattle.qtt_grammar.specs.Sketch.{named_class}
 use Rattle.qtt_grammar.proofs.Decide.{among}
 use Rattle.qtt_grammar.proofs.Formed as formed
 use Rattle.qtt_grammar.proofs.Formed.{need, need_shapes}
-use Rattle.qtt_grammar.proofs.Gives.{Each, Along, Gives, token_gives, chain_gives, ◌then_gives◌, made_gives, ◌or_gives◌, run_gives, perhaps_gives, wider_gives, opened_gives, up_to_gives}
+use Rattle.qtt_grammar.proofs.Gives.{Each, Along, Gives, token_gives, chain_gives, ◌then_gives◌, made_gives, ◌or_gives◌, run_gives, perhaps_gives, opened_gives, up_to_gives}
 use Rattle.qtt_grammar.proofs.Allowed.{IsFair, plain_case}
 use Rattle.qtt_grammar.proofs.Allowed as allowed
 
@@ -53,10 +48,10 @@ module _ (Fit : Word → Type 0) (wild : Fit (Word.named (codes "_"))) (pass : P
   any_name = locally is_name (among is_name is_bound_or_name refl)
 
   abbrev Zero_or_many : Mult → Type 0
-  Zero_or_many m = formed.is_zero_or_many Fit pass m ≡ true
+  Zero_or_many m = formed.is_zero_or_many m ≡ true
 
   zero_mark : Holds IsZero Zero_or_many
-  zero_mark = perhaps_gives mult.Many refl (token_gives (of is_zero) (λ x. mult_of x.class) (λ x f e. ap (formed.is_zero_or_many Fit pass) (allowed.zero_of Fit wild pass x.class e)))
+  zero_mark = perhaps_gives mult.Many refl (token_gives (of is_zero) (λ x. mult_of x.class) (λ x f e. ap (formed.is_zero_or_many) (allowed.zero_of Fit wild pass x.class e)))
 
   within : (k : ℕ) (t : Tree) → allowed.Inside Fit wild pass false (suc k) t → formed.Within_levels Fit pass k t
   within k t r = ((r.0, plain_case (ends_in_hole t) r.1.0), omega (arith, r.1.1))

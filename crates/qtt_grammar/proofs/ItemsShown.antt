@@ -1,15 +1,13 @@
 -- Modules are said by their printed words.
-use Rattle.std.proofs.Common.{◌≡◌, ℕ, zero, suc, ◌≤◌, pos, Bool, true, false, cond, List, [], ◌∷◌, ◌++◌, map, Option, Some, None, refl, sym, ap, ◌∙◌, subst, arith, append_assoc, codes}
+use Rattle.std.proofs.Common.{◌≡◌, ℕ, suc, ◌≤◌, pos, Bool, true, false, List, [], ◌∷◌, ◌++◌, map, None, refl, sym, ap, ◌∙◌, subst, append_assoc, codes}
 use Rattle.std.specs.Fmt.{digits}
-use Rattle.std.proofs.lemmas.List.{append-nil}
 use Rattle.qtt_base.specs.declared.place.Span.{Span}
 use Rattle.qtt_base.specs.declared.limits.Quantity.TheVariants as quantity
 use Rattle.qtt_usage.specs.declared.mult.Mult.{Mult}
 use Rattle.qtt_usage.specs.declared.mult.Mult.TheVariants as mult
 use Rattle.qtt_syntax.specs.declared.expr.Local.{Local}
 use Rattle.qtt_syntax.specs.declared.module.Import.{Import}
-use Rattle.qtt_syntax.specs.Tree.{Tree, Shape, Shapes, Param, Con, Item, Module, shapes}
-use Rattle.qtt_syntax.specs.Tree.Shapes.{shape_and}
+use Rattle.qtt_syntax.specs.Tree.{Tree, Shape, Param, Con, Item, Module, shapes}
 use Rattle.qtt_syntax.specs.Tree.Param.{param}
 use Rattle.qtt_syntax.specs.Tree.Con.{con}
 use Rattle.qtt_syntax.specs.Tree.Item.{family, signature, clause}
@@ -17,28 +15,25 @@ use Rattle.qtt_syntax.specs.Tree.Module.{module_text}
 use Rattle.qtt_syntax.specs.Words.{Word, Printed}
 use Rattle.qtt_syntax.specs.Printing as print
 use Rattle.qtt_syntax.specs.Printing.{parted, ends_open}
-use Rattle.qtt_phrase.specs.Phrase.{◌then◌, ◌or◌, Token, Making, Run, Perhaps, Above, opens}
-use Rattle.qtt_grammar.specs.declared.class.Class.{Class}
+use Rattle.qtt_phrase.specs.Phrase.{◌then◌, Token, Making, Run, Above, opens}
 use Rattle.qtt_grammar.specs.declared.class.Class.TheVariants as class
 use Rattle.qtt_grammar.specs.declared.class.Pass.{Pass}
-use Rattle.qtt_grammar.specs.declared.stop.Excess.{Excess}
 use Rattle.qtt_grammar.specs.Classes.{is_open, is_next, is_close, is_module, is_import, is_data, is_where, is_partial, is_zero, is_left_paren, is_right_paren, is_colon, is_equals, is_name, is_simple, is_big}
 use Rattle.qtt_grammar.specs.Lexeme.{Lexeme}
 use Rattle.qtt_grammar.specs.Limits.{is_full, one_above}
-use Rattle.qtt_grammar.specs.Grammar.{Says, of, place, Level, Symbol, IsZero, mult_of, Counted, Up_to, ends_in_hole, Place, Entry, start, clauses_before, next_place, param_of, con_of, next_con_of, cons_of, family_of, partial_of, erased_of, signature_of, clause_of, second, import_of, imports_of, items_of, module_of, IsParam, IsCon, Cons, IsFamily, Partial, Erased, Signing, Equation, Clause, Defining, IsItem, IsImport, IsEntry, IsModule, Shape_of}
+use Rattle.qtt_grammar.specs.Grammar.{Says, of, place, Level, Symbol, IsZero, mult_of, Counted, Up_to, Place, Entry, start, clauses_before, next_place, param_of, con_of, next_con_of, cons_of, family_of, partial_of, erased_of, signature_of, clause_of, second, import_of, imports_of, items_of, module_of, IsParam, IsCon, Cons, Equation, IsItem, IsEntry, IsModule, Shape_of}
 use Rattle.qtt_grammar.specs.Grammar.Entry.{imported, listed}
-use Rattle.qtt_grammar.specs.Sketch.{nowhere, unplaced, named_class, sketched}
+use Rattle.qtt_grammar.specs.Sketch.{nowhere, named_class, sketched}
 use Rattle.qtt_grammar.specs.Unplaced.{bare, bare_local, bare_shape, bare_shapes, bare_param, bare_con, bare_item, bare_import, bare_module}
-use Rattle.qtt_grammar.proofs.Prints.{Prints, words_are, value_is, token, chain, ◌then_prints◌, made, first_of, second_of, nothing, something, run_none, run_more}
+use Rattle.qtt_grammar.proofs.Prints.{Prints, token, chain, ◌then_prints◌, made, first_of, second_of, nothing, something, run_none, run_more}
 use Rattle.qtt_grammar.proofs.Tokens.{symbol, opening, local_named, locally}
-use Rattle.qtt_grammar.proofs.Saying.{mark, named, numeral, say, say_mark, say_typed, say_shape, say_shapes, sketched-append, sketched-parted, sketched-marked, sketched-binding, says, says_shapes}
+use Rattle.qtt_grammar.proofs.Saying.{mark, named, numeral, say, say_mark, say_typed, say_shapes, sketched-append, sketched-parted, sketched-marked, sketched-binding, says, says_shapes}
 use Rattle.qtt_grammar.proofs.Formed as formed
 use Rattle.qtt_grammar.proofs.Formed.{need, need_shapes}
 use Rattle.qtt_grammar.proofs.Forms.{Same}
 use Rattle.qtt_grammar.proofs.Shown as shown
-use Rattle.qtt_grammar.proofs.Shown.{may_at, inner_at, up_to_words}
+use Rattle.qtt_grammar.proofs.Shown.{may_at, inner_at, up_to_case, up_to_words, plain_ends}
 use Rattle.qtt_grammar.proofs.ShownPatterns as patterns
-use Rattle.qtt_grammar.proofs.ShownPatterns.{plain_ends}
 
 -- ---- what items say
 
@@ -174,7 +169,7 @@ module _ (Fit : Word → Type 0) (pass : Pass) (l i : ℕ) where
   abbrev inner : Level
   inner = Shape_of pass (may_at i) (inner_at pass i)
 
-  zero_mark : (m : Mult) → formed.is_zero_or_many Fit pass m ≡ true → Prints IsZero (say_mark m) (λ k. k ≡ m)
+  zero_mark : (m : Mult) → formed.is_zero_or_many m ≡ true → Prints IsZero (say_mark m) (λ k. k ≡ m)
   unfolding digits
   zero_mark mult.Zero e = something (token is_zero (λ x. mult_of x.class) (numeral (pos 0)) refl (λ x h. ap (λ (y : Lexeme). mult_of y.class) h))
   zero_mark mult.One e = absurd cc
@@ -188,14 +183,14 @@ module _ (Fit : Word → Type 0) (pass : Pass) (l i : ℕ) where
 
   -- ---- families
 
-  param_words : (p : Param) (ps : List Param) → formed.Param_formed Fit pass i p → Prints (IsParam pass top inner) (say_params (p ∷ [])) (λ q. bare_param q ≡ bare_param p)
-  param_words (param m n t s) ps f =
-      words_are (sym (append-nil (say_typed m n (say t)))) (made param_of (opening is_left_paren class.LeftParen refl then_prints zero_mark m f.0 then_prints locally is_simple n f.1.0.0 then_prints symbol is_colon class.Colon refl then_prints expr_words i t f.1.1 then_prints symbol is_right_paren class.RightParen refl) (λ a r. let x = r.1.0 in let y = name_of a.1.1.0 n r.1.1.0 in let z = r.1.1.1.1.0 in cc))
+  param_words : (m : Mult) (n : List ℕ) (t : Tree) (s : Span) → formed.Param_formed Fit pass i (param m n t s) → Prints (IsParam pass top inner) (say_typed m n (say t)) (λ q. bare_param q ≡ param m n (bare t) nowhere)
+  param_words m n t s f =
+      made param_of (opening is_left_paren class.LeftParen refl then_prints zero_mark m f.0 then_prints locally is_simple n f.1.0.0 then_prints symbol is_colon class.Colon refl then_prints expr_words i t f.1.1 then_prints symbol is_right_paren class.RightParen refl) (λ a r. let x = r.1.0 in let y = name_of a.1.1.0 n r.1.1.0 in let z = r.1.1.1.1.0 in cc)
 
   params_words : (n : ℕ) (ps : List Param) → formed.Params_formed Fit pass i n ps → Prints (Counted pass quantity.Parts n (IsParam pass top inner)) (say_params ps) (λ q. map bare_param q ≡ map bare_param ps)
   params_words n [] f = run_none n refl refl
   params_words n (param m k t s ∷ more) f =
-      run_more n refl (up_to_words pass quantity.Parts n (IsParam pass top inner) f.0 (words_are (append-nil (say_typed m k (say t))) (param_words (param m k t s) more f.1.0))) (λ a x. params_words (suc n) more f.1.1) (λ a q x y. ap (λ (v : Param). v ∷ map bare_param q) x ∙ ap (λ (v : List Param). param m k (bare t) nowhere ∷ v) y)
+      run_more n refl (up_to_words pass quantity.Parts n (IsParam pass top inner) f.0 (param_words m k t s f.1.0)) (λ a x. params_words (suc n) more f.1.1) (λ a q x y. ap (λ (v : Param). v ∷ map bare_param q) x ∙ ap (λ (v : List Param). param m k (bare t) nowhere ∷ v) y)
 
   con_words : (k : Con) → formed.Con_formed Fit pass l k → Prints (IsCon pass top inner) (say_con k) (λ c. bare_con c ≡ bare_con k)
   con_words (con n t s) f = made con_of (locally is_big n f.0.0 then_prints symbol is_colon class.Colon refl then_prints typing_words t f.1) (λ a r. let x = name_of a.0 n r.0 in let y = r.1.1 in cc)
@@ -230,17 +225,13 @@ module _ (Fit : Word → Type 0) (pass : Pass) (l i : ℕ) where
   signature_item at false mult.Many n ns t s f =
       second_of (second_of (second_of (made second (chain {S = λ m a. bare_item a ≡ bare_item (signature false mult.Many n ns t s)} (locally is_simple n f.1.0.0) (λ m r. first_of (made (signature_of m) (symbol is_colon class.Colon refl then_prints typing_words t f.1.1) (λ a q. let y = name_of m n r in let z = q.1 in cc)))) (λ a r. r.1))))
 
-  below_limit : (P Q : Says Item) (t : Item) (ws : List Lexeme) (b : Bool) → b ≡ false → Prints P ws (λ a. bare_item a ≡ bare_item t) → Prints (cond b Q P) ws (λ a. bare_item a ≡ bare_item t)
-  below_limit P Q t ws true e p = absurd cc
-  below_limit P Q t ws false e p = p
-
   equation_words : (m : Local) (n : List ℕ) (ps : List Shape) (side : Tree) (s : Span) → m.name ≡ n → formed.Shapes_formed Fit pass 0 (shapes ps) × (need_shapes (shapes ps) ≤ l) → formed.Formed Fit pass side × (need side ≤ l) → Prints (Equation pass top inner m) (say_shapes (shapes ps) ++ mark class.Equals ∷ say side) (λ a. bare_item a ≡ bare_item (clause n ps side s))
   equation_words m n ps side s e f g =
       made (clause_of m) (patterns.shown_shapes Fit pass (shapes ps) 0 f.0 l f.1 then_prints symbol is_equals class.Equals refl then_prints (shown.shown Fit pass side g.0 l g.1).expr true (λ h. refl)) (λ a r. let x = same_shapes a.0 ps r.0 in let y = r.1.1 in cc)
 
   clause_item : (at : Place) (n : List ℕ) (ps : List Shape) (side : Tree) (s : Span) → formed.Item_formed Fit pass l i at (clause n ps side s) → Item_words at (clause n ps side s)
   clause_item at n ps side s f =
-      second_of (second_of (second_of (made second (chain {S = λ m a. bare_item a ≡ bare_item (clause n ps side s)} (locally is_simple n f.0.0) (λ m r. second_of (below_limit (Equation pass top inner m) (Above (λ _. one_above quantity.Clauses m.span) (Equation pass top inner m)) (clause n ps side s) _ (is_full pass quantity.Clauses (clauses_before at m.name)) (rw (name_of m n r) f.1.0) (equation_words m n ps side s (name_of m n r) f.1.1.0 f.1.1.1)))) (λ a r. r.1))))
+      second_of (second_of (second_of (made second (chain {S = λ m a. bare_item a ≡ bare_item (clause n ps side s)} (locally is_simple n f.0.0) (λ m r. second_of (up_to_case (Equation pass top inner m) (Above (λ _. one_above quantity.Clauses m.span) (Equation pass top inner m)) (is_full pass quantity.Clauses (clauses_before at m.name)) (rw (name_of m n r) f.1.0) (equation_words m n ps side s (name_of m n r) f.1.1.0 f.1.1.1)))) (λ a r. r.1))))
 
   item_words : (at : Place) (t : Item) → formed.Item_formed Fit pass l i at t → Item_words at t
   item_words at (family n ns ps t cs s) f = family_item at n ns ps t cs s f

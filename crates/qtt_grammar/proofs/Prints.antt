@@ -1,5 +1,5 @@
 -- Words that a phrase says, wherever they stand.
-use Rattle.std.proofs.Common.{◌≡◌, Bool, true, false, List, [], ◌∷◌, ◌++◌, map, Option, Some, None, refl, sym, ap, ◌∙◌, append_assoc, inl, inr, ◌⊎◌}
+use Rattle.std.proofs.Common.{◌≡◌, Bool, true, List, [], ◌∷◌, ◌++◌, map, Option, Some, None, refl, sym, ap, ◌∙◌, append_assoc, inl, inr}
 use Rattle.qtt_base.specs.declared.place.Span.{Span}
 use Rattle.qtt_phrase.specs.Phrase.{Weighed, Token, Chain, ◌then◌, Making, ◌or◌, Many, Run, Perhaps, Placed, first}
 use Rattle.qtt_grammar.specs.declared.class.Class.{Class}
@@ -65,11 +65,13 @@ pub token : {A : Type 0} {R : A → Type 0} (is : Class → Bool) (value : Lexem
 token is value w e f = weighed (λ _. None) is value w e (λ x h. (refl, f x h))
 
 pub chain : {A B : Type 0} {P : Says A} {Q : A → Says B} {us vs : List Lexeme} {R : A → Type 0} {S : A → B → Type 0} → Prints P us R → ((a : A) → R a → Prints (Q a) vs (S a)) → Prints (Chain P Q) (us ++ vs) (λ c. R c.0 × S c.0 c.1)
-chain {us} {vs} p q = record { at = λ ls e.
-    let s = split us vs ls e in
-    let a = p.at s.front s.left in
-    let b = (q a.0 a.2).at s.back s.right in
-    ((a.0, b.0), (s.front, s.back, None, None, s.parts, a.1, b.1, refl), (a.2, b.2)) }
+chain {us} {vs} p q = record {
+  at = λ ls e.
+      let s = split us vs ls e in
+      let a = p.at s.front s.left in
+      let b = (q a.0 a.2).at s.back s.right in
+      ((a.0, b.0), (s.front, s.back, None, None, s.parts, a.1, b.1, refl), (a.2, b.2));
+}
 
 infixr 6 ◌then_prints◌
 pub ◌then_prints◌ : {A B : Type 0} {P : Says A} {Q : Says B} {us vs : List Lexeme} {R : A → Type 0} {S : B → Type 0} → Prints P us R → Prints Q vs S → Prints (P then Q) (us ++ vs) (λ c. R c.0 × S c.1)
@@ -90,11 +92,13 @@ module _ {A : Type 0} {P : Says A} where
   many_none r = record { at = λ ls e. ([], (empty ls e, refl), r) }
 
   pub many_more : {us vs : List Lexeme} {R : A → Type 0} {S T : List A → Type 0} → Prints P us R → Prints (Many P) vs S → ((a : A) (more : List A) → R a → S more → T (a ∷ more)) → Prints (Many P) (us ++ vs) T
-  many_more {us} {vs} p q f = record { at = λ ls e.
-      let s = split us vs ls e in
-      let a = p.at s.front s.left in
-      let b = q.at s.back s.right in
-      (a.0 ∷ b.0, (s.front, s.back, None, None, s.parts, a.1, b.1, refl), f a.0 b.0 a.2 b.2) }
+  many_more {us} {vs} p q f = record {
+    at = λ ls e.
+        let s = split us vs ls e in
+        let a = p.at s.front s.left in
+        let b = q.at s.back s.right in
+        (a.0 ∷ b.0, (s.front, s.back, None, None, s.parts, a.1, b.1, refl), f a.0 b.0 a.2 b.2);
+  }
 
   pub nothing : {R : A → Type 0} (none : A) → R none → Prints (Perhaps none P) [] R
   nothing none r = record { at = λ ls e. (none, inl (empty ls e, refl, refl), r) }
@@ -107,11 +111,13 @@ module _ {A S : Type 0} {ends goes : S → Bool} {next : S → A → S} {P : S �
   run_none s h r = record { at = λ ls e. ([], (empty ls e, h, refl), r) }
 
   pub run_more : {us vs : List Lexeme} {R : A → Type 0} {T : A → List A → Type 0} {U : List A → Type 0} (s : S) → goes s ≡ true → Prints (P s) us R → ((a : A) → R a → Prints (Run ends goes next P (next s a)) vs (T a)) → ((a : A) (more : List A) → R a → T a more → U (a ∷ more)) → Prints (Run ends goes next P s) (us ++ vs) U
-  run_more {us} {vs} s h p q f = record { at = λ ls e.
-      let t = split us vs ls e in
-      let a = p.at t.front t.left in
-      let b = (q a.0 a.2).at t.back t.right in
-      (a.0 ∷ b.0, (t.front, t.back, None, None, t.parts, h, a.1, b.1, refl), f a.0 b.0 a.2 b.2) }
+  run_more {us} {vs} s h p q f = record {
+    at = λ ls e.
+        let t = split us vs ls e in
+        let a = p.at t.front t.left in
+        let b = (q a.0 a.2).at t.back t.right in
+        (a.0 ∷ b.0, (t.front, t.back, None, None, t.parts, h, a.1, b.1, refl), f a.0 b.0 a.2 b.2);
+  }
 
 placed_at : {A : Type 0} (P : Says A) (R : A → Type 0) (w : Lexeme) (ws ls : List Lexeme) → map unplaced ls ≡ w ∷ ws → (a : A) → P ls a None → R a → (c : Span × A) × Placed place P ls c None × R c.1
 placed_at P R w ws [] e a p r = absurd cc
@@ -121,7 +127,8 @@ placed_at P R w ws (x ∷ ls) e a p r = ((x.place, a), (x, ls, refl, refl, p), r
 pub placed : {A : Type 0} {P : Says A} {R : A → Type 0} {w : Lexeme} {ws : List Lexeme} → Prints P (w ∷ ws) R → Prints (Placed place P) (w ∷ ws) (λ c. R c.1)
 placed {P} {R} {w} {ws} p = record { at = λ ls e. let a = p.at ls e in placed_at P R w ws ls e a.0 a.1 a.2 }
 
-first_none : {F : Type 0} (p q : Option F) → first p q ≡ None → (p ≡ None) × (q ≡ None)
+-- neither of two parts has a fault
+pub first_none : {F : Type 0} (p q : Option F) → first p q ≡ None → (p ≡ None) × (q ≡ None)
 first_none None q e = (refl, e)
 first_none (Some f) q e = absurd cc
 
@@ -132,8 +139,10 @@ then_more P Q front back ls a c parts m (ws, xs, o, q, apart, n, k, none) =
 
 -- one more of the many that stand before another phrase
 pub many_then_more : {A B : Type 0} {R : A → Type 0} {us vs : List Lexeme} (P : Says A) (Q : Says B) (S T : List A × B → Type 0) → Prints P us R → Prints (Many P then Q) vs S → ((a : A) (c : List A × B) → R a → S c → T (a ∷ c.0, c.1)) → Prints (Many P then Q) (us ++ vs) T
-many_then_more {us} {vs} P Q S T p q f = record { at = λ ls e.
-    let s = split us vs ls e in
-    let a = p.at s.front s.left in
-    let b = q.at s.back s.right in
-    ((a.0 ∷ b.0.0, b.0.1), then_more P Q s.front s.back ls a.0 b.0 s.parts a.1 b.1, f a.0 b.0 a.2 b.2) }
+many_then_more {us} {vs} P Q S T p q f = record {
+  at = λ ls e.
+      let s = split us vs ls e in
+      let a = p.at s.front s.left in
+      let b = q.at s.back s.right in
+      ((a.0 ∷ b.0.0, b.0.1), then_more P Q s.front s.back ls a.0 b.0 s.parts a.1 b.1, f a.0 b.0 a.2 b.2);
+}

@@ -1,12 +1,11 @@
 -- The lexemes of printed trees, one behind the other.
-use Rattle.std.proofs.Common.{◌≡◌, ℕ, zero, suc, ◌+◌, ℤ, pos, Bool, true, false, cond, ◌&&◌, List, [], ◌∷◌, ◌++◌, refl, sym, ap, ◌∙◌, append_assoc, codes, nat_eq}
+use Rattle.std.proofs.Common.{◌≡◌, ℕ, ◌+◌, ℤ, pos, Bool, true, false, cond, ◌&&◌, List, [], ◌∷◌, ◌++◌, refl, ap, ◌∙◌, append_assoc, codes, nat_eq}
 use Rattle.std.proofs.lemmas.Bool.{eqb-true}
-use Rattle.qtt_base.specs.declared.place.Span.{Span}
 use Rattle.qtt_usage.specs.declared.mult.Mult.{Mult}
 use Rattle.qtt_usage.specs.declared.mult.Mult.TheVariants.{Zero, One, Many}
 use Rattle.qtt_syntax.specs.declared.expr.Mark.{Mark}
 use Rattle.qtt_syntax.specs.declared.expr.Mark.TheVariants.{Written, Braced, Inserted}
-use Rattle.qtt_syntax.specs.Tree.{Tree, Annotation, Argument, Arguments, Binder, Binders, Statement, Statements, Shape, Shapes, Param, Con, Item, Module, shapes}
+use Rattle.qtt_syntax.specs.Tree.{Tree, Annotation, Argument, Arguments, Binder, Binders, Statement, Statements, Shape, Shapes}
 use Rattle.qtt_syntax.specs.Tree.Tree.{name, number, text, universe, hole, the, apply, pi, lambda, letting, doing}
 use Rattle.qtt_syntax.specs.Tree.Annotation.{untyped, typed}
 use Rattle.qtt_syntax.specs.Tree.Argument.{argument}
@@ -19,7 +18,7 @@ use Rattle.qtt_syntax.specs.Tree.Shape.{variable, wildcard, constructor, dot}
 use Rattle.qtt_syntax.specs.Tree.Shapes.{no_shape, shape_and}
 use Rattle.qtt_syntax.specs.Words.{Word, Printed}
 use Rattle.qtt_syntax.specs.Printing as print
-use Rattle.qtt_syntax.specs.Printing.{is_atom, is_app, is_arrow, is_number, is_level_0, is_empty, bracketed, atom, broken, parted, ends_open, annotation_open, begins_negative, number_first}
+use Rattle.qtt_syntax.specs.Printing.{is_atom, is_app, is_arrow, is_number, is_level_0, is_empty, bracketed, atom, broken, parted, ends_open, annotation_open, number_first}
 use Rattle.qtt_grammar.specs.declared.class.Class.{Class}
 use Rattle.qtt_grammar.specs.declared.class.Class.TheVariants as class
 use Rattle.qtt_grammar.specs.Lexeme as lexeme

@@ -1,5 +1,5 @@
 -- A tree that the grammar allows is said by its printed words, within as many levels as these take.
-use Rattle.std.proofs.Common.{◌≡◌, ℕ, zero, suc, ◌≤◌, max, pos, Bool, true, false, cond, List, [], ◌∷◌, ◌++◌, Option, Some, None, refl, sym, ap, ◌∙◌, subst, arith, codes}
+use Rattle.std.proofs.Common.{◌≡◌, ℕ, zero, suc, ◌≤◌, Bool, true, false, cond, List, [], ◌∷◌, ◌++◌, refl, sym, ap, ◌∙◌, subst, arith, codes}
 use Rattle.qtt_base.specs.declared.place.Span.{Span}
 use Rattle.qtt_base.specs.declared.limits.Quantity.{Quantity}
 use Rattle.qtt_base.specs.declared.limits.Quantity.TheVariants as quantity
@@ -7,7 +7,6 @@ use Rattle.qtt_usage.specs.declared.mult.Mult.{Mult}
 use Rattle.qtt_usage.specs.declared.mult.Mult.TheVariants as mult
 use Rattle.qtt_syntax.specs.declared.expr.Mark.{Mark}
 use Rattle.qtt_syntax.specs.declared.expr.Mark.TheVariants.{Written, Braced, Inserted}
-use Rattle.qtt_syntax.specs.declared.expr.Local.{Local}
 use Rattle.qtt_syntax.specs.Tree as tree
 use Rattle.qtt_syntax.specs.Tree.{Tree, Annotation, Arguments, Binder, Binders, Statement, Statements, arguments, binders, statements}
 use Rattle.qtt_syntax.specs.Tree.Tree.{name, number, text, universe, hole, the, apply, pi, lambda, letting, doing}
@@ -20,22 +19,21 @@ use Rattle.qtt_syntax.specs.Tree.Statement.{bind, local, run}
 use Rattle.qtt_syntax.specs.Tree.Statements.{no_statement, statement_and}
 use Rattle.qtt_syntax.specs.Words.{Word}
 use Rattle.qtt_syntax.specs.Printing.{is_atom, is_app, is_arrow}
-use Rattle.qtt_phrase.specs.Phrase.{◌then◌, Making, Many, Some_of, opens}
-use Rattle.qtt_grammar.specs.declared.class.Class.{Class}
+use Rattle.qtt_phrase.specs.Phrase.{◌then◌, Many, Some_of}
 use Rattle.qtt_grammar.specs.declared.class.Class.TheVariants as class
 use Rattle.qtt_grammar.specs.declared.class.Pass.{Pass}
 use Rattle.qtt_grammar.specs.declared.class.Standing.{Standing}
 use Rattle.qtt_grammar.specs.Classes.{is_next, is_hole, is_name, is_bname}
 use Rattle.qtt_grammar.specs.Lexeme.{Lexeme}
 use Rattle.qtt_grammar.specs.Limits.{is_full}
-use Rattle.qtt_grammar.specs.Grammar.{Says, of, Level, Up_to, next_of, braced_of, written_of, standing_of, may_end, may_go, ends_in_hole, last_in_hole, statement_in_hole, Typed, IsBinder, IsAnnotation, LetHead, Lines, Block, OtherAtom, IsAtom, Atoms, Brace, IsApp, Arrow, Hole, OtherExpr, IsExpr, IsStatement, Shape_of, Simple_level, levels}
-use Rattle.qtt_grammar.specs.Sketch.{nowhere, unplaced, named_class, word_lexeme}
-use Rattle.qtt_grammar.specs.Unplaced.{bare, bare_local, bare_annotation, bare_argument, bare_arguments, bare_binder, bare_binders, bare_statement, bare_statements}
-use Rattle.qtt_grammar.proofs.Prints.{Prints, words_are, value_is, token, chain, ◌then_prints◌, made, first_of, second_of, many_none, many_more, many_then_more, run_none, run_more}
+use Rattle.qtt_grammar.specs.Grammar.{Says, Level, Up_to, next_of, written_of, standing_of, may_go, ends_in_hole, last_in_hole, statement_in_hole, IsBinder, IsAnnotation, Lines, Block, OtherAtom, IsAtom, Atoms, Brace, IsApp, Arrow, OtherExpr, IsExpr, IsStatement, Shape_of, Simple_level, levels}
+use Rattle.qtt_grammar.specs.Sketch.{nowhere, named_class, word_lexeme}
+use Rattle.qtt_grammar.specs.Unplaced.{bare, bare_argument, bare_arguments, bare_binder, bare_binders, bare_statement, bare_statements}
+use Rattle.qtt_grammar.proofs.Prints.{Prints, value_is, token, chain, ◌then_prints◌, made, first_of, second_of, many_none, many_more, many_then_more, run_none, run_more}
 use Rattle.qtt_grammar.proofs.Tokens.{symbol, named_token, number_token, text_token, type_token}
-use Rattle.qtt_grammar.proofs.Saying.{mark, named, numeral, wrapped, say_typed, say_domain, say, say_annotation, say_arguments, say_argument, say_binders, say_binder, say_statements, say_more, say_statement}
+use Rattle.qtt_grammar.proofs.Saying.{mark, named, wrapped, say_typed, say_domain, say, say_annotation, say_arguments, say_binders, say_binder, say_statements, say_more, say_statement}
 use Rattle.qtt_grammar.proofs.Formed as formed
-use Rattle.qtt_grammar.proofs.Formed.{wrapped_need, domain_need, need, need_annotation, need_arguments, need_argument, need_binders, need_binder, need_statements, need_statement}
+use Rattle.qtt_grammar.proofs.Formed.{wrapped_need, need, need_annotation, need_arguments, need_binders, need_binder, need_statements, need_statement}
 use Rattle.qtt_grammar.proofs.Forms.{Same, SameAnnotation, SameStatement, SameArguments, SameBinders, Some_words, Some_arguments, same_names, typed_words, plain_words, lambda_words, untyped_words, annotation_words, let_words, letting_words, bracket_words, brace_words, doing_words, the_words, named_app_words, other_app_words, name_words, atom_app_words, app_words, arrow_words, pi_words, bind_words, run_words, local_words, let_run_words}
 
 -- ---- levels
@@ -129,14 +127,16 @@ not_last n (run t s) h = not_last_case n (ends_in_hole t) h
 
 -- ---- counts
 
-up_to_case : {A : Type 0} {ws : List Lexeme} {R : A → Type 0} (P Q : Says A) (b : Bool) → b ≡ false → Prints P ws R → Prints (cond b Q P) ws R
+-- a phrase below its limit
+pub up_to_case : {A : Type 0} {ws : List Lexeme} {R : A → Type 0} (P Q : Says A) (b : Bool) → b ≡ false → Prints P ws R → Prints (cond b Q P) ws R
 up_to_case P Q true e p = absurd cc
 up_to_case P Q false e p = p
 
 pub up_to_words : {A : Type 0} {ws : List Lexeme} {R : A → Type 0} (pass : Pass) (q : Quantity) (n : ℕ) (P : Says A) → is_full pass q n ≡ false → Prints P ws R → Prints (Up_to pass q n P) ws R
 up_to_words pass q n P e p = up_to_case P _ (is_full pass q n) e p
 
-plain_ends : (t : Tree) → ends_in_hole t ≡ false → ends_in_hole t ≡ true → false ≡ true
+-- where no hole ends a tree, it may stand outside a tail position
+pub plain_ends : (t : Tree) → ends_in_hole t ≡ false → ends_in_hole t ≡ true → false ≡ true
 plain_ends t e f = sym e ∙ f
 
 module _ (Fit : Word → Type 0) (pass : Pass) where
@@ -144,10 +144,10 @@ module _ (Fit : Word → Type 0) (pass : Pass) where
   Formed = formed.Formed Fit pass
 
   abbrev pub Plain : Tree → Type 0
-  Plain = formed.Plain Fit pass
+  Plain = formed.Plain
 
   abbrev is_named : Tree → Bool
-  is_named = formed.is_named Fit pass
+  is_named = formed.is_named
 
   abbrev pub Ends : Bool → Tree → Type 0
   Ends tail t = ends_in_hole t ≡ true → tail ≡ true
@@ -216,7 +216,7 @@ module _ (Fit : Word → Type 0) (pass : Pass) where
 
   -- ---- applications and domains
 
-  some_args : (args : Arguments) → formed.some_argument Fit pass args ≡ true → Some_arguments args
+  some_args : (args : Arguments) → formed.some_argument args ≡ true → Some_arguments args
   some_args no_argument e = absurd cc
   some_args (argument_and a more) e = record { head = a; rest = more; are = refl }
 

@@ -1,9 +1,7 @@
 -- Types with braces, and patterns, are said by their printed words.
-use Rattle.std.proofs.Common.{◌≡◌, ℕ, zero, suc, ◌≤◌, pos, Bool, true, false, cond, List, [], ◌∷◌, ◌++◌, map, refl, sym, ap, ◌∙◌, subst, arith, append_assoc, codes}
+use Rattle.std.proofs.Common.{◌≡◌, ℕ, zero, suc, ◌≤◌, pos, true, false, List, [], ◌∷◌, ◌++◌, refl, sym, ap, ◌∙◌, arith, append_assoc, codes}
 use Rattle.qtt_base.specs.declared.place.Span.{Span}
 use Rattle.qtt_base.specs.declared.limits.Quantity.TheVariants as quantity
-use Rattle.qtt_usage.specs.declared.mult.Mult.{Mult}
-use Rattle.qtt_usage.specs.declared.mult.Mult.TheVariants as mult
 use Rattle.qtt_syntax.specs.declared.expr.Mark.TheVariants.{Written, Braced, Inserted}
 use Rattle.qtt_syntax.specs.declared.expr.Target.TheVariants.{Unknown}
 use Rattle.qtt_syntax.specs.declared.expr.Named as named_code
@@ -12,15 +10,14 @@ use Rattle.qtt_syntax.specs.Tree.Tree.{name, number, text, universe, hole, the, 
 use Rattle.qtt_syntax.specs.Tree.Shape.{variable, wildcard, constructor, dot}
 use Rattle.qtt_syntax.specs.Tree.Shapes.{no_shape, shape_and}
 use Rattle.qtt_syntax.specs.Words.{Word}
-use Rattle.qtt_phrase.specs.Phrase.{◌then◌, Making}
 use Rattle.qtt_grammar.specs.declared.class.Class.{Class}
 use Rattle.qtt_grammar.specs.declared.class.Class.TheVariants as class
 use Rattle.qtt_grammar.specs.declared.class.Pass.{Pass}
 use Rattle.qtt_grammar.specs.Classes.{same, is_constructor, is_pattern_word, is_left_paren, is_right_paren, is_dot_paren}
 use Rattle.qtt_grammar.specs.Lexeme.{Lexeme}
-use Rattle.qtt_grammar.specs.Grammar.{Says, of, place, Counted, pattern_word, group_of, bracketed_of, dot_of, bare_of, ends_in_hole, IsTyping, IsPattern}
+use Rattle.qtt_grammar.specs.Grammar.{Counted, pattern_word, group_of, bracketed_of, dot_of, bare_of, IsTyping, IsPattern}
 use Rattle.qtt_grammar.specs.Sketch.{nowhere, unplaced, named_class}
-use Rattle.qtt_grammar.specs.Unplaced.{bare, bare_named, bare_shape, bare_shapes}
+use Rattle.qtt_grammar.specs.Unplaced.{bare_named, bare_shape, bare_shapes}
 use Rattle.qtt_grammar.proofs.Prints.{Prints, words_are, token, ◌then_prints◌, made, first_of, second_of, run_none, run_more}
 use Rattle.qtt_grammar.proofs.Tokens.{symbol, opening, named_token}
 use Rattle.qtt_grammar.proofs.Saying.{mark, named, numeral, wrapped, say, say_shape, say_shapes}
@@ -28,7 +25,7 @@ use Rattle.qtt_grammar.proofs.Formed as formed
 use Rattle.qtt_grammar.proofs.Formed.{need, need_shape, need_shapes}
 use Rattle.qtt_grammar.proofs.Forms.{Same, implicit_words}
 use Rattle.qtt_grammar.proofs.Shown as shown
-use Rattle.qtt_grammar.proofs.Shown.{may_at, inner_at, up_to_words}
+use Rattle.qtt_grammar.proofs.Shown.{may_at, inner_at, up_to_words, plain_ends}
 
 -- the same pattern but for places
 abbrev pub SameShape : Shape → Shape → Type 0
@@ -46,20 +43,17 @@ group_value : (m n : named_code.Named) (l : List Shape) (p : Shape) (more : Shap
 group_value m n [] p more s e f = absurd cc
 group_value m n (q ∷ l) p more s e f = let x = e in let y = f in cc
 
-pub plain_ends : (t : Tree) → ends_in_hole t ≡ false → ends_in_hole t ≡ true → false ≡ true
-plain_ends t e f = sym e ∙ f
-
 module _ (Fit : Word → Type 0) (pass : Pass) where
   -- ---- types
 
-  as_expr : (t : Tree) → formed.Formed Fit pass t × formed.Plain Fit pass t → (d : ℕ) → need t ≤ d → Prints (IsTyping pass (may_at d) (inner_at pass d)) (say t) (Same t)
+  as_expr : (t : Tree) → formed.Formed Fit pass t × formed.Plain t → (d : ℕ) → need t ≤ d → Prints (IsTyping pass (may_at d) (inner_at pass d)) (say t) (Same t)
   as_expr t f d h = second_of ((shown.shown Fit pass t f.0 d h).expr false (plain_ends t f.1))
 
   pub shown_typing : (t : Tree) → formed.Typing_formed Fit pass t → (d : ℕ) → need t ≤ d → Prints (IsTyping pass (may_at d) (inner_at pass d)) (say t) (Same t)
   shown_typing (pi Braced m n a b s) f zero h = absurd (omega arith)
   shown_typing (pi Braced m n a b s) f (suc d) h =
       rw f.0 (first_of (words_are (ap (λ (v : List Lexeme). mark class.LeftBrace ∷ numeral (pos 0) ∷ named n ∷ mark class.Colon ∷ v) (sym (append_assoc (say a) (mark class.RightBrace ∷ []) (mark class.Arrow ∷ say b))))
-        (implicit_words pass (inner_at pass (suc d)) n a b s (say a) (say b) f.1.0.0 ((shown.shown Fit pass a f.1.1.0.0 d (omega arith)).expr false (plain_ends a f.1.1.0.1)) (shown_typing b f.1.1.1 d (omega arith)))))
+      (implicit_words pass (inner_at pass (suc d)) n a b s (say a) (say b) f.1.0.0 ((shown.shown Fit pass a f.1.1.0.0 d (omega arith)).expr false (plain_ends a f.1.1.0.1)) (shown_typing b f.1.1.1 d (omega arith)))))
   shown_typing (pi Written m n a b s) f d h = as_expr (pi Written m n a b s) f d h
   shown_typing (pi Inserted m n a b s) f d h = as_expr (pi Inserted m n a b s) f d h
   shown_typing (name n) f d h = as_expr (name n) f d h
@@ -94,7 +88,7 @@ module _ (Fit : Word → Type 0) (pass : Pass) where
   group_words n p more s d t e q =
       second_of (second_of (second_of (made bracketed_of (opening is_left_paren class.LeftParen refl then_prints first_of (made {S = λ f. (r : Span) → bare_shape (f r) ≡ constructor Written (bare_named n) (bare_shapes (shape_and p more)) nowhere} group_of (named_token is_constructor n t e then_prints q) (λ a r v. group_value a.0 n a.1 p more v r.0 r.1)) then_prints symbol is_right_paren class.RightParen refl) (λ a r. r.1.0 a.0))))
 
-  dot_words : (t : Tree) (s : Span) (d : ℕ) → formed.Formed Fit pass t × formed.Plain Fit pass t → need t ≤ d → Prints (IsPattern pass (may_at (suc d)) (inner_at pass (suc d))) (mark class.DotParen ∷ (say t ++ mark class.RightParen ∷ [])) (SameShape (dot Written t s))
+  dot_words : (t : Tree) (s : Span) (d : ℕ) → formed.Formed Fit pass t × formed.Plain t → need t ≤ d → Prints (IsPattern pass (may_at (suc d)) (inner_at pass (suc d))) (mark class.DotParen ∷ (say t ++ mark class.RightParen ∷ [])) (SameShape (dot Written t s))
   dot_words t s d f h =
       second_of (second_of (first_of (made dot_of (opening is_dot_paren class.DotParen refl then_prints (shown.shown Fit pass t f.0 d h).expr false (plain_ends t f.1) then_prints symbol is_right_paren class.RightParen refl) (λ a r. let x = r.1.0 in cc))))
 

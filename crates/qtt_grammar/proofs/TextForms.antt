@@ -1,12 +1,11 @@
 -- The names of each text have the forms of their spellings.
-use Rattle.std.proofs.Common.{◌≡◌, ℕ, ℤ, pos, negsuc, Bool, true, false, cond, nat_eq, ◌==◌, List, [], ◌∷◌, ◌++◌, Option, Some, None, unwrap_or, refl, sym, ap, ◌∙◌, subst, codes}
+use Rattle.std.proofs.Common.{◌≡◌, ℕ, Bool, true, false, cond, nat_eq, List, [], ◌∷◌, Option, Some, None, unwrap_or, refl, sym, ap, subst}
 use Rattle.std.specs.Cmp.Lexicographic.{pointwise}
 use Rattle.std.specs.Str.{encode_utf8_all}
 use Rattle.qtt_base.specs.declared.place.Span.{Span}
 use Rattle.qtt_lexer.specs.Piece.{listed, reserved, reserved_words, pairs, singles}
 use Rattle.qtt_lexer.specs.Place.{place_after}
-use Rattle.qtt_lexer.specs.Lexed.{token}
-use Rattle.qtt_lexer.specs.Forms.{IsToken, IsPart, Cut, IsLongest, AreLongest, with_token, tokens_of, IsText}
+use Rattle.qtt_lexer.specs.Forms.{IsToken, IsPart, Cut, AreLongest, with_token, tokens_of, IsText}
 use Rattle.qtt_lexer.specs.Forms.IsToken.{word, hole, number, negative, text, one, two}
 use Rattle.qtt_lexer.specs.declared.place.Place.{Place}
 use Rattle.qtt_lexer.specs.declared.token.Token.{Token}
@@ -21,10 +20,12 @@ use Rattle.qtt_layout.specs.declared.laid.Laid.TheVariants as laid
 use Rattle.qtt_grammar.specs.declared.class.Class.{Class}
 use Rattle.qtt_grammar.specs.declared.class.Class.TheVariants as class
 use Rattle.qtt_grammar.specs.Classes.{is_bound_or_name}
-use Rattle.qtt_grammar.specs.Lexeme.{Lexeme, name_class, sign_class, number_class, token_lexeme, lexeme_of, takes_number, joined, lexemes}
+use Rattle.qtt_grammar.specs.Lexeme.{Lexeme, name_class, number_class, token_lexeme, lexeme_of, takes_number, joined, lexemes}
 use Rattle.qtt_grammar.specs.Sketch.{named_class}
 use Rattle.qtt_grammar.specs.Spelled.{HasForm, HaveForms}
 use Rattle.qtt_grammar.proofs.Gives.{Each}
+use Rattle.qtt_grammar.proofs.Tokens.{IsNumber, number_is}
+use Rattle.qtt_grammar.proofs.Tokens.IsNumber.{zero_class, one_class, natural_class, negative_class}
 
 -- the kind of a token is no name spelled `_`
 abbrev Fine : TokenKind → Type 0
@@ -101,25 +102,6 @@ kept_fine [] e = tt
 kept_fine (t ∷ ts) e = kept_case (role_of t.kind) t (kept ts) e.0 (kept_fine ts e.1)
 
 -- ---- lexemes
-
-data IsNumber : Class → Type 0 where
-  zero_class : IsNumber class.Zero
-  one_class : IsNumber class.One
-  natural_class : IsNumber class.Natural
-  negative_class : IsNumber class.Negative
-
-sign_number : (z : ℤ) → IsNumber (sign_class z)
-sign_number (pos n) = natural_class
-sign_number (negsuc n) = negative_class
-
-cond_number : (b : Bool) (c d : Class) → IsNumber c → IsNumber d → IsNumber (cond b c d)
-cond_number true c d i j = i
-cond_number false c d i j = j
-
-number_is : (bs : List ℕ) (z : ℤ) → IsNumber (number_class bs z)
-number_is [] z = sign_number z
-number_is (b ∷ []) z = cond_number _ _ _ zero_class (cond_number _ _ _ one_class (sign_number z))
-number_is (b ∷ c ∷ bs) z = sign_number z
 
 no_number : (c d : Class) → IsNumber c → is_bound_or_name c ≡ true → d ≡ c
 no_number c d zero_class e = absurd cc

@@ -1,5 +1,5 @@
 -- Single printed words, read back.
-use Rattle.std.proofs.Common.{◌≡◌, ℕ, zero, suc, ℤ, pos, negsuc, Bool, true, false, cond, ◌&&◌, ◌==◌, eqb, List, [], ◌∷◌, ◌++◌, Option, Some, None, refl, sym, ap, ◌∙◌, subst, inl, inr, codes}
+use Rattle.std.proofs.Common.{◌≡◌, ℕ, ℤ, pos, negsuc, Bool, true, false, cond, List, [], ◌∷◌, Some, None, refl, ap, ◌∙◌}
 use Rattle.std.specs.Fmt.{digits, signed_decimal}
 use Rattle.qtt_base.specs.declared.place.Span.{Span}
 use Rattle.qtt_usage.specs.declared.mult.Mult.{Mult}
@@ -8,18 +8,16 @@ use Rattle.qtt_syntax.specs.declared.expr.Target.TheVariants.{Unknown}
 use Rattle.qtt_syntax.specs.declared.expr.Named as named_code
 use Rattle.qtt_syntax.specs.declared.expr.Local.{Local}
 use Rattle.qtt_syntax.specs.Tree.{Tree}
-use Rattle.qtt_syntax.specs.Tree.Tree.{name, number, text, universe, hole}
-use Rattle.qtt_syntax.specs.Words.{Word}
-use Rattle.qtt_phrase.specs.Phrase.{Weighed, Token, ◌or◌, Making, Perhaps, opens}
+use Rattle.qtt_syntax.specs.Tree.Tree.{name, number, text, universe}
+use Rattle.qtt_phrase.specs.Phrase.{Weighed, Token}
 use Rattle.qtt_grammar.specs.declared.class.Class.{Class}
 use Rattle.qtt_grammar.specs.declared.class.Class.TheVariants as class
 use Rattle.qtt_grammar.specs.declared.class.Pass.{Pass}
-use Rattle.qtt_grammar.specs.declared.stop.Excess.{Excess}
-use Rattle.qtt_grammar.specs.Classes.{is_name, is_word, is_digit, is_zero}
+use Rattle.qtt_grammar.specs.Classes.{is_word, is_digit, is_zero}
 use Rattle.qtt_grammar.specs.Lexeme.{Lexeme, type_lexeme, text_lexeme, number_class, sign_class}
-use Rattle.qtt_grammar.specs.Limits.{word_excess, excess_of, number_of}
-use Rattle.qtt_grammar.specs.Grammar.{Says, of, place, Symbol, Opening, Locally, IsMark, IsZero, local_of, named_of, mult_of, word_of}
-use Rattle.qtt_grammar.specs.Sketch.{nowhere, unplaced, named_class, word_lexeme}
+use Rattle.qtt_grammar.specs.Limits.{word_excess, excess_of}
+use Rattle.qtt_grammar.specs.Grammar.{of, place, Symbol, Opening, Locally, IsMark, local_of, named_of, mult_of, word_of}
+use Rattle.qtt_grammar.specs.Sketch.{nowhere, unplaced, named_class}
 use Rattle.qtt_grammar.specs.Unplaced.{bare, bare_named, bare_local}
 use Rattle.qtt_grammar.proofs.Prints.{Prints, token, weighed, something, nothing}
 use Rattle.qtt_grammar.proofs.Saying.{mark, named, numeral, say_mark}
@@ -50,7 +48,8 @@ zero_token = token is_zero (λ x. mult_of x.class) (numeral (pos 0)) refl (λ x 
 
 -- ---- atoms that are no names
 
-excess_case : (b : Bool) (f g : Excess) → cond b (Some f) None ≡ None → cond b (Some g) None ≡ None
+-- no fault is told, whatever it would be
+pub excess_case : {F : Type 0} (b : Bool) (f g : F) → cond b (Some f) None ≡ None → cond b (Some g) None ≡ None
 excess_case true f g e = absurd cc
 excess_case false f g e = refl
 
@@ -67,7 +66,8 @@ bare_word _ x = refl
 pub word_token : (pass : Pass) (w : Lexeme) (t : Tree) → is_word w.class ≡ true → excess_of pass w ≡ None → bare (word_of w.class w) ≡ bare t → Prints (Weighed (excess_of pass) (of is_word) (λ x. word_of x.class x)) (w ∷ []) (λ u. bare u ≡ bare t)
 word_token pass w t e f g = weighed (excess_of pass) is_word (λ x. word_of x.class x) w e (λ x h. (excess_elsewhere pass x.class x (ap (λ (y : Lexeme). word_excess pass y.class y) h ∙ f), bare_word x.class x ∙ ap (λ (y : Lexeme). bare (word_of y.class y)) h ∙ g))
 
-data IsNumber : Class → Type 0 where
+-- the forms of numbers
+pub data IsNumber : Class → Type 0 where
   zero_class : IsNumber class.Zero
   one_class : IsNumber class.One
   natural_class : IsNumber class.Natural
@@ -81,7 +81,7 @@ cond_number : (b : Bool) (c d : Class) → IsNumber c → IsNumber d → IsNumbe
 cond_number true c d i j = i
 cond_number false c d i j = j
 
-number_is : (bs : List ℕ) (z : ℤ) → IsNumber (number_class bs z)
+pub number_is : (bs : List ℕ) (z : ℤ) → IsNumber (number_class bs z)
 number_is [] z = sign_number z
 number_is (b ∷ []) z = cond_number _ _ _ zero_class (cond_number _ _ _ one_class (sign_number z))
 number_is (b ∷ c ∷ bs) z = sign_number z

@@ -1,5 +1,5 @@
 -- Printed words as the grammar sees them, without their places.
-use Rattle.std.specs.Prelude.{ℕ, ℤ, nat_eq, cond, List, [], ◌∷◌, ◌++◌, Option, codes, unwrap_or}
+use Rattle.std.specs.Prelude.{ℕ, nat_eq, cond, List, [], ◌∷◌, ◌++◌, codes, unwrap_or}
 use Rattle.std.specs.Cmp.Lexicographic.{pointwise}
 use Rattle.std.specs.Fmt.{signed_decimal}
 use Rattle.qtt_base.specs.declared.place.Span.{Span}

@@ -1,9 +1,9 @@
 -- Texts that grow by words.
-use Rattle.std.proofs.Common.{◌≡◌, ℕ, zero, suc, ◌+◌, ◌<◌, ◌≤◌, List, [], ◌∷◌, ◌++◌, length, get_or, drop, refl, sym, ap, ◌∙◌, append_assoc, add-one, arith, drop-cons, Bool, true, false, Result, Ok, Err, OnOk, codes, ◌⊎◌, inl, inr, take, cond, length-drop, ◌-◌}
+use Rattle.std.proofs.Common.{◌≡◌, ℕ, suc, ◌+◌, ◌<◌, List, [], ◌∷◌, ◌++◌, length, get_or, drop, refl, sym, ap, ◌∙◌, append_assoc, add-one, arith, drop-cons, Bool, true, false, codes, ◌⊎◌, inl, inr, take, cond, length-drop, ◌-◌}
 use Rattle.std.proofs.lemmas.List.{append-nil}
 use Rattle.std.proofs.Math.Seq.{take-length}
 use Rattle.qtt_syntax.specs.Words.{Printed, written, written_as}
-use Rattle.qtt_syntax.specs.Tree.{Tree, Statements, Shape, Param, Con, Item, shapes}
+use Rattle.qtt_syntax.specs.Tree.{Tree, Statements, Shape, Param, Con, shapes}
 use Rattle.qtt_syntax.specs.Tree.Shape.{constructor}
 use Rattle.qtt_syntax.specs.Tree.Item.{family}
 use Rattle.qtt_syntax.specs.declared.expr.Named.{Named}
@@ -11,11 +11,10 @@ use Rattle.qtt_base.specs.declared.place.Span.{Span}
 use Rattle.qtt_syntax.specs.Tree.Statements.{no_statement, statement_and}
 use Rattle.qtt_syntax.specs.Words.Printed.{word, blank}
 use Rattle.qtt_syntax.specs.Words.Word.{type_at, named}
-use Rattle.qtt_syntax.specs.Printing.{atom, bracketed, is_atom, is_level_0, is_arrow, is_app, domain, in_brackets, binding, braced, begins_negative, broken, ends_open, key, let_name, let_head, parted, statement, statements, more_statements, pattern, patterns, con_words, params, cons, more_cons, expr, item}
+use Rattle.qtt_syntax.specs.Printing.{atom, bracketed, is_atom, is_level_0, is_arrow, is_app, domain, in_brackets, binding, braced, begins_negative, broken, ends_open, key, let_name, let_head, parted, statements, more_statements, pattern, patterns, params, cons, more_cons, expr, item}
 use Rattle.qtt_syntax.specs.declared.expr.Mark.{Mark}
 use Rattle.qtt_syntax.specs.declared.expr.Mark.TheVariants.{Written, Braced, Inserted}
 use Rattle.qtt_usage.specs.declared.mult.Mult.{Mult}
-use Rattle.qtt_usage.specs.declared.mult.Mult.TheVariants.{Zero, One, Many}
 
 pub written-append : (ps qs : List Printed) → written (ps ++ qs) ≡ written ps ++ written qs
 written-append [] qs = refl

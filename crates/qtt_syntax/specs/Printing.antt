@@ -1,6 +1,6 @@
 -- The canonical text of a tree, a line of the grammar at a time.
 -- In each definition c blanks stand before the column of the enclosing block.
-use Rattle.std.specs.Prelude.{ℕ, zero, ◌+◌, ℤ, pos, negsuc, Bool, true, false, not, ◌&&◌, nat_eq, if◌then◌else◌, List, [], ◌∷◌, ◌++◌, codes}
+use Rattle.std.specs.Prelude.{ℕ, ◌+◌, pos, negsuc, Bool, true, false, ◌&&◌, nat_eq, if◌then◌else◌, List, [], ◌∷◌, ◌++◌, codes}
 use Rattle.std.specs.Cmp.Lexicographic.{pointwise}
 use Rattle.qtt_usage.specs.declared.mult.Mult.{Mult}
 use Rattle.qtt_usage.specs.declared.mult.Mult.TheVariants.{Zero, One, Many}
@@ -22,7 +22,7 @@ use Rattle.qtt_syntax.specs.Tree.Param.{param}
 use Rattle.qtt_syntax.specs.Tree.Con.{con}
 use Rattle.qtt_syntax.specs.Tree.Item.{family, signature, clause}
 use Rattle.qtt_syntax.specs.Tree.Module.{module_text}
-use Rattle.qtt_syntax.specs.Words.{Word, Printed, written}
+use Rattle.qtt_syntax.specs.Words.{Printed, written}
 use Rattle.qtt_syntax.specs.Words.Word.{sign, named, numeral, bare_type, type_at, quoted, hole_named}
 use Rattle.qtt_syntax.specs.Words.Printed.{word, blank, line, opened, next, closed}
 

@@ -1,5 +1,5 @@
 -- Worked examples of printed trees.
-use Rattle.std.specs.Prelude.{◌≡◌, ℕ, pos, negsuc, true, false, List, [], ◌∷◌, map, codes, refl}
+use Rattle.std.specs.Prelude.{◌≡◌, ℕ, pos, negsuc, false, List, [], ◌∷◌, map, codes, refl}
 use Rattle.std.specs.Fmt.{digits}
 use Rattle.qtt_base.specs.declared.place.Span.{Span}
 use Rattle.qtt_usage.specs.declared.mult.Mult.TheVariants.{Zero, One, Many}
@@ -7,11 +7,10 @@ use Rattle.qtt_syntax.specs.declared.expr.Mark.TheVariants.{Written, Braced}
 use Rattle.qtt_syntax.specs.declared.expr.Target.TheVariants.{Unknown}
 use Rattle.qtt_syntax.specs.declared.expr.Named.{Named}
 use Rattle.qtt_syntax.specs.declared.expr.Local.{Local}
-use Rattle.qtt_syntax.specs.Tree.{Tree, Argument, Shape, Item, Module, arguments, binders, statements, shapes}
-use Rattle.qtt_syntax.specs.Tree.Tree.{name, number, universe, the, apply, pi, lambda, letting, doing}
+use Rattle.qtt_syntax.specs.Tree.{Tree, Item, arguments, statements, shapes}
+use Rattle.qtt_syntax.specs.Tree.Tree.{name, number, universe, apply, pi, letting, doing}
 use Rattle.qtt_syntax.specs.Tree.Annotation.{untyped}
 use Rattle.qtt_syntax.specs.Tree.Argument.{argument}
-use Rattle.qtt_syntax.specs.Tree.Binder.{plain}
 use Rattle.qtt_syntax.specs.Tree.Statement.{bind, run}
 use Rattle.qtt_syntax.specs.Tree.Shape.{variable, wildcard, constructor}
 use Rattle.qtt_syntax.specs.Tree.Param.{param}
@@ -56,7 +55,7 @@ total =
     signature false Many (codes "total") here (pi Written Zero (codes "n") (var (codes "Nat")) (to (call (codes "Vect") (var (codes "Int") ∷ var (codes "n") ∷ [])) (var (codes "Int"))) here) here
     ∷ clause (codes "total") (wildcard Written here ∷ constructor Written (named (codes "Nil")) (shapes []) here ∷ []) (int 0) here
     ∷ clause (codes "total") (wildcard Written here ∷ constructor Written (named (codes "Cons")) (shapes (variable Written (codes "k") here ∷ variable Written (codes "x") here ∷ variable Written (codes "xs") here ∷ [])) here ∷ [])
-        (call (codes "addInt") (var (codes "x") ∷ call (codes "total") (var (codes "k") ∷ var (codes "xs") ∷ []) ∷ [])) here ∷ []
+    (call (codes "addInt") (var (codes "x") ∷ call (codes "total") (var (codes "k") ∷ var (codes "xs") ∷ []) ∷ [])) here ∷ []
 
 pub program : printed (module_text here (codes "Main") here [] (vect ∷ total))
     ≡ codes "module Main\ndata Vect (a : Type) : Nat -> Type where\n  Nil : Vect a Z\n  Cons : (0 k : Nat) -> (1 x : a) -> Vect a (S k)\ntotal : (0 n : Nat) -> Vect Int n -> Int\ntotal _ Nil = 0\ntotal _ (Cons k x xs) = addInt x (total k xs)\n"

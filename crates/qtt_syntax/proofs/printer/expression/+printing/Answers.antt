@@ -1,6 +1,5 @@
 -- Each form writes its words one after the other.
-use Rattle.std.proofs.Common.{◌≡◌, true, false, ℕ, ◌+◌, ◌<◌, List, [], ◌∷◌, ◌++◌, map, drop, length, replicate, inl, inr, refl, ap, ◌∙◌, sym, append_assoc, arith, rules}
-use Rattle.std.proofs.lemmas.Grind.{common_steps}
+use Rattle.std.proofs.Common.{◌≡◌, true, false, ℕ, ◌+◌, List, [], ◌∷◌, ◌++◌, map, drop, replicate, inl, inr, refl, ap, ◌∙◌, sym, append_assoc}
 use Rattle.std.proofs.lemmas.List.{append-nil}
 use Rattle.std.specs.Fmt.{digits}
 use Rattle.qtt_syntax.specs.Tree as tree
@@ -8,7 +7,7 @@ use Rattle.qtt_syntax.specs.View.{tree_of, argument_of, binder_of, statement_of,
 use Rattle.qtt_syntax.specs.Tree.Tree.{apply, lambda, letting, doing}
 use Rattle.qtt_syntax.specs.Tree.Statement.{local}
 use Rattle.qtt_syntax.specs.Words.{written}
-use Rattle.qtt_syntax.specs.Words.Printed.{line, blank}
+use Rattle.qtt_syntax.specs.Words.Printed.{blank}
 use Rattle.qtt_syntax.specs.Printing.{expr, annotation, annotation_open, arguments, binders, binder, statements, statement, argument_words, number_first, is_level_0, ends_open, let_head, braced, begins_negative}
 use Rattle.qtt_syntax.proofs.Rows.{apply_view, lambda_view, do_view, let_view, local_view}
 use Rattle.qtt_syntax.proofs.Written.{written-append, one_more, type_with_level, atom_of_itself, domain_of_arrow, domain_of_binder, domain_of_braces, domain_grows, lead, lead_grows, braced_grows, rest_taken, first_statement, let_head_grows, let_grows}

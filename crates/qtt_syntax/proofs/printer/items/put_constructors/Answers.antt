@@ -1,8 +1,7 @@
-use Rattle.std.proofs.Common.{◌≡◌, ℕ, ◌+◌, List, [], ◌∷◌, ◌++◌, length, map, drop, refl, sym, ap, ◌∙◌, append_assoc, arith, codes}
-use Rattle.std.proofs.lemmas.List.{append-nil}
-use Rattle.qtt_syntax.specs.View.{con_of, tree_of}
+use Rattle.std.proofs.Common.{◌≡◌, ℕ, ◌+◌, List, ◌++◌, map, drop, ap, append_assoc, codes}
+use Rattle.qtt_syntax.specs.View.{con_of}
 use Rattle.qtt_syntax.specs.Words.{written}
-use Rattle.qtt_syntax.specs.Printing.{cons, con_words, expr}
+use Rattle.qtt_syntax.specs.Printing.{cons, con_words}
 use Rattle.qtt_syntax.proofs.Written.{one_more, first_con}
 use Rattle.qtt_syntax.proofs.printer.items.put_constructors.Goals as goal
 

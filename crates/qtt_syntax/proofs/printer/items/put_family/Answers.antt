@@ -1,5 +1,4 @@
-use Rattle.std.proofs.Common.{◌≡◌, ℕ, ◌+◌, List, [], ◌∷◌, ◌++◌, length, map, drop, refl, sym, ap, ◌∙◌, append_assoc, arith, codes}
-use Rattle.std.proofs.lemmas.List.{append-nil}
+use Rattle.std.proofs.Common.{map}
 use Rattle.qtt_syntax.specs.View.{tree_of, param_of, con_of}
 use Rattle.qtt_syntax.proofs.Written.{family_grows}
 use Rattle.qtt_syntax.proofs.printer.items.put_family.Goals as goal

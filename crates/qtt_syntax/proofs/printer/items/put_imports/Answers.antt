@@ -1,5 +1,4 @@
-use Rattle.std.proofs.Common.{◌≡◌, ℕ, ◌+◌, List, [], ◌∷◌, ◌++◌, length, map, drop, refl, sym, ap, ◌∙◌, append_assoc, arith, codes}
-use Rattle.std.proofs.lemmas.List.{append-nil}
+use Rattle.std.proofs.Common.{◌≡◌, ◌+◌, ◌++◌, refl, append_assoc, codes}
 use Rattle.qtt_syntax.specs.Words.{written}
 use Rattle.qtt_syntax.specs.Printing.{imports}
 use Rattle.qtt_syntax.proofs.Written.{one_more}
