@@ -1,5 +1,5 @@
 -- Functions with their binders.
-use Rattle.std.proofs.Common.{◌≡◌, ◌∙◌, ℕ, ◌<◌, ◌-◌, Bool, List, ◌∷◌, map, Vec, Global, Box, ap, sym}
+use Rattle.std.proofs.Common.{◌≡◌, ◌∙◌, ℕ, Bool, List, map, Vec, Global, Box, ap, sym}
 use Rattle.std.specs.Prelude.{nat_lt}
 use Rattle.qtt_base.specs.declared.place.Span.{Span}
 use Rattle.qtt_syntax.specs.declared.expr.Binder as code

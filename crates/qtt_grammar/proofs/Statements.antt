@@ -20,7 +20,7 @@ use Rattle.qtt_grammar.specs.declared.lexeme.Lexeme.{Lexeme}
 use Rattle.qtt_grammar.specs.declared.stop.Stop.{Stop}
 use Rattle.qtt_grammar.specs.declared.stop.Stop.TheVariants as stop
 use Rattle.qtt_grammar.specs.Classes.{is_let, is_next, is_do, is_open, is_close}
-use Rattle.qtt_grammar.specs.Grammar.{of, place, run_of, ends_in_hole, last_in_hole, statement_in_hole, standing_of, may_end, may_go, next_line}
+use Rattle.qtt_grammar.specs.Grammar.{of, place, ends_in_hole, last_in_hole, statement_in_hole, standing_of, may_end, may_go, next_line}
 use Rattle.qtt_grammar.specs.Limits.{is_full, one_above}
 use Rattle.qtt_grammar.specs.Readers.{Reads, LevelReader, symbol_at, statement_starts, bad_start, expr_at, other_expr_at, line_at, level_at, opener_at, block_at, doing_at}
 use Rattle.qtt_grammar.specs.View.{Fails, below, inside, first_place_at, with_front, both}

@@ -32,6 +32,10 @@ number_class _ z = sign_class z
 abbrev pub text_lexeme : Span → List ℕ → Lexeme
 text_lexeme s value = record { class = class.Text; place = s; name = []; text = value; number = pos 0; number_place = s; found = [] }
 
+-- `Type` with a number
+abbrev pub type_lexeme : Span → ℕ → Span → Lexeme
+type_lexeme s n ns = record { class = class.Universe; place = s; name = []; text = []; number = pos n; number_place = ns; found = [] }
+
 -- a token's form, at its place and as it is spelled
 abbrev pub token_lexeme : TokenKind → Span → List ℕ → Lexeme
 token_lexeme kind.Module s t = sign class.Module s

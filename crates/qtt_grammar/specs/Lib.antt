@@ -6,3 +6,6 @@ pub mod Readers
 pub mod View
 pub mod Answer
 pub mod Examples
+pub mod Sketch
+pub mod Unplaced
+pub mod Spelled

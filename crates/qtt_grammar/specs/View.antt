@@ -11,7 +11,6 @@ use Rattle.qtt_grammar.specs.declared.stop.Reason.{Reason}
 use Rattle.qtt_grammar.specs.declared.stop.Reason.TheVariants as reason
 use Rattle.qtt_grammar.specs.declared.stop.Stop.{Stop}
 use Rattle.qtt_grammar.specs.declared.stop.Stop.TheVariants as stop
-use Rattle.qtt_syntax.specs.Tree.{Tree}
 use Rattle.qtt_syntax.specs.View.{tree_of, written_type}
 use Rattle.qtt_syntax.specs.declared.expr.Expr.{Expr}
 use Rattle.qtt_grammar.specs.Grammar.{LetParts}

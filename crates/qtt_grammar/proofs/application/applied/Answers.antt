@@ -1,5 +1,4 @@
-use Rattle.std.proofs.Common.{◌≡◌, ◌∙◌, List, [], map, length, vec_len, ap, sym, eq-eqb, arith}
-use Rattle.qtt_syntax.specs.declared.expr.Argument as argument_code
+use Rattle.std.proofs.Common.{◌≡◌, ◌∙◌, map, length, vec_len, ap, sym, eq-eqb, arith}
 use Rattle.qtt_syntax.specs.declared.expr.Expr.{Expr}
 use Rattle.qtt_syntax.specs.Tree.{arguments}
 use Rattle.qtt_syntax.specs.Tree.Tree.{apply}

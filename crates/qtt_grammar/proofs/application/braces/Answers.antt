@@ -1,15 +1,13 @@
-use Rattle.std.proofs.Common.{◌≡◌, ◌-◌, ◌++◌, ◌∷◌, [], true, false, map, length, sym, refl}
+use Rattle.std.proofs.Common.{◌≡◌, ◌-◌, ◌++◌, ◌∷◌, [], true, false, map, length, sym}
 use Rattle.std.proofs.lemmas.List.{map_push}
 use Rattle.std.proofs.lemmas.Result.{err_from_is_err_and}
-use Rattle.qtt_phrase.specs.Reading.{begins, many_at, making_at}
-use Rattle.qtt_phrase.specs.Reading.Read.{got}
-use Rattle.qtt_syntax.specs.View.{argument_of, tree_of}
-use Rattle.qtt_syntax.specs.declared.expr.Argument.TheVariants as marked
-use Rattle.qtt_grammar.specs.Classes.{starts_atom, is_left_brace}
-use Rattle.qtt_grammar.specs.Grammar.{of, written_of}
-use Rattle.qtt_grammar.specs.Readers.{atom_at, brace_at}
-use Rattle.qtt_grammar.specs.View.{Fails, inside, with_front}
-use Rattle.qtt_grammar.proofs.Loops.{alike_ends, alike_stops, alike_goes, made_stops}
+use Rattle.qtt_phrase.specs.Reading.{begins, many_at}
+use Rattle.qtt_syntax.specs.View.{argument_of}
+use Rattle.qtt_grammar.specs.Classes.{is_left_brace}
+use Rattle.qtt_grammar.specs.Grammar.{of}
+use Rattle.qtt_grammar.specs.Readers.{brace_at}
+use Rattle.qtt_grammar.specs.View.{inside}
+use Rattle.qtt_grammar.proofs.Loops.{alike_ends, alike_stops, alike_goes}
 use Rattle.qtt_grammar.proofs.application.braces.Goals as goal
 
 pub returns-then-not-begins : goal.returns-then-not-begins

@@ -1,10 +1,9 @@
 use Rattle.std.proofs.Common.{◌≡◌, ◌-◌, map, length}
-use Rattle.qtt_phrase.specs.Reading.{many_at, making_at}
-use Rattle.qtt_syntax.specs.View.{argument_of, tree_of}
-use Rattle.qtt_syntax.specs.declared.expr.Argument.TheVariants as marked
-use Rattle.qtt_grammar.specs.Classes.{starts_atom, is_left_brace}
-use Rattle.qtt_grammar.specs.Grammar.{of, written_of}
-use Rattle.qtt_grammar.specs.Readers.{atom_at, brace_at}
+use Rattle.qtt_phrase.specs.Reading.{many_at}
+use Rattle.qtt_syntax.specs.View.{argument_of}
+use Rattle.qtt_grammar.specs.Classes.{is_left_brace}
+use Rattle.qtt_grammar.specs.Grammar.{of}
+use Rattle.qtt_grammar.specs.Readers.{brace_at}
 use Rattle.qtt_grammar.specs.View.{inside, with_front}
 use Rattle.qtt_grammar.proofs.Loops.{run_alike}
 use Rattle.qtt_grammar.proofs.application.braces.Given as goal

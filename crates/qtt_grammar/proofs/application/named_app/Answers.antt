@@ -1,15 +1,6 @@
-use Rattle.std.proofs.Common.{◌≡◌, ◌∙◌, map, ap, sym, refl, List, rules}
+use Rattle.std.proofs.Common.{map}
 use Rattle.std.proofs.lemmas.Result.{err_from_is_err_and}
-use Rattle.qtt_phrase.specs.Reading.{many_at, making_at}
-use Rattle.qtt_phrase.specs.Reading.Read.{got}
-use Rattle.qtt_syntax.specs.Tree.{Tree, Argument}
-use Rattle.qtt_syntax.specs.Tree.Tree.{name}
 use Rattle.qtt_syntax.specs.View.{tree_of, argument_of}
-use Rattle.qtt_grammar.specs.Classes.{starts_atom}
-use Rattle.qtt_grammar.specs.Grammar.{of, written_of, app_of}
-use Rattle.qtt_grammar.specs.Readers.{atom_at, named_app_at}
-use Rattle.qtt_grammar.specs.View.{inside}
-use Rattle.qtt_grammar.proofs.Loops.{behind, behind_stops}
 use Rattle.qtt_grammar.proofs.Applied.{named_stops, named_got}
 use Rattle.qtt_grammar.proofs.application.named_app.Goals as goal
 

@@ -1,4 +1,4 @@
-use Rattle.std.proofs.Common.{◌≡◌, map, rules}
+use Rattle.std.proofs.Common.{map, rules}
 use Rattle.std.proofs.lemmas.Result.{err_from_is_err_and}
 use Rattle.qtt_syntax.specs.View.{tree_of, argument_of}
 use Rattle.qtt_grammar.proofs.Applied.{other_stops, other_got}

@@ -1,6 +1,6 @@
 use Rattle.std.proofs.Common.{◌≡◌, refl, subst}
 use Rattle.std.proofs.lemmas.Result.{err_from_is_err_and}
-use Rattle.qtt_phrase.specs.Reading.{Read, making_at, placed_at}
+use Rattle.qtt_phrase.specs.Reading.{Read, placed_at}
 use Rattle.qtt_phrase.specs.Reading.Read.{got}
 use Rattle.qtt_syntax.specs.Tree.{Tree}
 use Rattle.qtt_syntax.specs.View.{tree_of}

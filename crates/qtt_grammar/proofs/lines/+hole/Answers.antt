@@ -1,4 +1,4 @@
-use Rattle.std.proofs.Common.{◌≡◌, ◌∙◌, ap, sym, arith}
+use Rattle.std.proofs.Common.{◌∙◌, ap, sym, arith}
 use Rattle.qtt_syntax.specs.declared.expr.Expr.{Expr}
 use Rattle.qtt_syntax.specs.View.{tree_of}
 use Rattle.qtt_grammar.specs.Grammar.{ends_in_hole}

@@ -1,12 +1,10 @@
-use Rattle.std.proofs.Common.{◌≡◌, ◌-◌, ◌++◌, ◌∷◌, [], ◌&&◌, suc, true, false, map, length, vec_len, sym, ap, ◌∙◌, List, arith, ℕ}
+use Rattle.std.proofs.Common.{◌≡◌, ◌-◌, ◌++◌, ◌∷◌, [], suc, map, length, sym, ap, ◌∙◌, arith}
 use Rattle.std.proofs.lemmas.List.{map_push, length-append}
 use Rattle.std.proofs.lemmas.Result.{err_from_is_err_and}
-use Rattle.qtt_phrase.specs.Reading.Read.{got}
-use Rattle.qtt_syntax.specs.declared.expr.Statement as code
 use Rattle.qtt_syntax.specs.View.{statement_of}
 use Rattle.qtt_grammar.specs.Grammar.{standing_of}
-use Rattle.qtt_grammar.specs.Readers.{line_at, lines_at}
-use Rattle.qtt_grammar.specs.View.{Fails, inside, with_front}
+use Rattle.qtt_grammar.specs.Readers.{lines_at}
+use Rattle.qtt_grammar.specs.View.{inside, with_front}
 use Rattle.qtt_grammar.proofs.Statements.{lines_end, lines_out, lines_stop, lines_go}
 use Rattle.qtt_grammar.proofs.lines.lines.Goals as goal
 
