@@ -13,3 +13,6 @@ pub use errors::NamesError;
 pub use exports::{Exports, Sig};
 pub use module::resolve;
 pub use scope::Scope;
+
+#[cfg(test)]
+mod tests;
