@@ -13,6 +13,3 @@ pub use errors::NamesError;
 pub use exports::{Exports, Sig};
 pub use module::resolve;
 pub use scope::Scope;
-
-#[cfg(test)]
-mod tests;
