@@ -1,11 +1,12 @@
 -- The lists and options in the nodes of a tree.
-use Rattle.std.proofs.Common.{◌≡◌, List, map, Option, Some, None, refl, ap, ◌∙◌, Vec, Global, Box}
+use Rattle.std.proofs.Common.{◌≡◌, List, map, Option, Some, None, refl, ap, sym, ◌∙◌, Vec, Global, Box}
+use Rattle.std.proofs.lemmas.Grind.{common_steps}
 use Rattle.qtt_base.specs.declared.place.Span.{Span}
 use Rattle.qtt_usage.specs.declared.mult.Mult.{Mult}
 use Rattle.qtt_syntax.specs.declared.expr.Mark.{Mark}
 use Rattle.qtt_syntax.specs.declared.expr.Local.{Local}
 use Rattle.qtt_syntax.specs.declared.expr.Named.{Named}
-use Rattle.qtt_syntax.specs.declared.expr.Expr.{Expr, Row_of-Argument, end_of-Argument, more_of-Argument, items-the_row-Argument, items_hidden-the_row-Argument-0, Row_of-Binder, end_of-Binder, more_of-Binder, items-the_row-Binder, items_hidden-the_row-Binder-1, Row_of-Statement, end_of-Statement, more_of-Statement, items-the_row-Statement, items_hidden-the_row-Statement-2}
+use Rattle.qtt_syntax.specs.declared.expr.Expr.{Expr, the_lemmas, Row_of-Argument, end_of-Argument, more_of-Argument, items-the_row-Argument, items_hidden-the_row-Argument-0, Row_of-Binder, end_of-Binder, more_of-Binder, items-the_row-Binder, items_hidden-the_row-Binder-1, Row_of-Statement, end_of-Statement, more_of-Statement, items-the_row-Statement, items_hidden-the_row-Statement-2}
 use Rattle.qtt_syntax.specs.declared.expr.Expr.TheVariants as code
 use Rattle.qtt_syntax.specs.declared.expr.Argument as argument_code
 use Rattle.qtt_syntax.specs.declared.expr.Binder as binder_code
@@ -13,7 +14,7 @@ use Rattle.qtt_syntax.specs.declared.expr.Statement as statement_code
 use Rattle.qtt_syntax.specs.declared.expr.Statement.TheVariants as step
 use Rattle.qtt_syntax.specs.declared.pattern.Pattern.{Pattern, Row_of-Pattern, end_of-Pattern, more_of-Pattern, items-the_row-Pattern, items_hidden-the_row-Pattern-0}
 use Rattle.qtt_syntax.specs.declared.pattern.Pattern.TheVariants as pattern
-use Rattle.qtt_syntax.specs.Tree.{Arguments, Binders, Statements, Shapes, arguments, binders, statements, shapes}
+use Rattle.qtt_syntax.specs.Tree.{Tree, Argument, Binder, Statement, Arguments, Binders, Statements, Shapes, arguments, binders, statements, shapes}
 use Rattle.qtt_syntax.specs.Tree.Tree.{apply, lambda, letting, doing}
 use Rattle.qtt_syntax.specs.Tree.Arguments.{argument_and}
 use Rattle.qtt_syntax.specs.Tree.Binders.{binder_and}
@@ -78,3 +79,27 @@ let_view m n (Some t) e b s = refl
 pub local_view : (m : Mult) (n : Local) (t : Option (Box Expr Global)) (e : Expr) (s : Span) → statement_of (step.Let m n t e s) ≡ local m n (written_type t) (tree_of e) s
 local_view m n None e s = refl
 local_view m n (Some t) e s = refl
+
+-- ---- forms with rows of parts are the same where their parts are
+pub same_apply : (f g : Box Expr Global) (v w : Vec argument_code.Argument Global) (s : Span)
+    → tree_of f.value ≡ tree_of g.value → map argument_of v.items ≡ map argument_of w.items → tree_of (code.Apply f v s) ≡ tree_of (code.Apply g w s)
+same_apply f g v w s function row =
+    apply_view f v s
+    ∙ ap (λ (t : Tree). apply t (arguments (map argument_of v.items)) s) function
+    ∙ ap (λ (xs : List Argument). apply (tree_of g.value) (arguments xs) s) row
+    ∙ sym (apply_view g w s)
+
+pub same_lambda : (v w : Vec binder_code.Binder Global) (b d : Box Expr Global) (s : Span)
+    → map binder_of v.items ≡ map binder_of w.items → tree_of b.value ≡ tree_of d.value → tree_of (code.Lambda v b s) ≡ tree_of (code.Lambda w d s)
+same_lambda v w b d s row body =
+    lambda_view v b s
+    ∙ ap (λ (xs : List Binder). lambda (binders xs) (tree_of b.value) s) row
+    ∙ ap (λ (t : Tree). lambda (binders (map binder_of w.items)) t s) body
+    ∙ sym (lambda_view w d s)
+
+pub same_do : (v w : Vec statement_code.Statement Global) (s : Span)
+    → map statement_of v.items ≡ map statement_of w.items → tree_of (code.Do v s) ≡ tree_of (code.Do w s)
+same_do v w s row = do_view v s ∙ ap (λ (xs : List Statement). doing (statements xs) s) row ∙ sym (do_view w s)
+
+-- all that the parts of an expression want
+pub ruleset rows = (the_lemmas, common_steps, apply_view, lambda_view, do_view, let_view, local_view)

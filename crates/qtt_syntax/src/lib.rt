@@ -1,6 +1,7 @@
 //! Trees of module texts.
 #![tactic(auto)]
 
+mod copying;
 mod expr;
 mod module;
 mod pattern;
