@@ -1,9 +1,9 @@
 -- Answers for the elements of a list.
-use Rattle.std.proofs.Common.{◌≡◌, ℕ, zero, suc, ◌<◌, List, [], ◌∷◌, ◌++◌, length, map, Ok, Err, IfOk, refl, sym, ◌∙◌, ap, subst, arith}
+use Rattle.std.proofs.Common.{◌≡◌, suc, List, [], ◌∷◌, ◌++◌, length, map, Ok, Err, IfOk, refl, subst, arith}
 use mathlib.Core.Path.{ap₂}
 use Rattle.std.specs.declared.result.Result.{Result}
 use Rattle.std.specs.Fn.{FnReturns}
-use Rattle.std.specs.Fork.{GivesJobs, GivesJob}
+use Rattle.std.specs.Fork.{GivesJobs}
 use denote.Param.Members.{Shared}
 use Rattle.qtt_lower.specs.Answered.{Answered}
 

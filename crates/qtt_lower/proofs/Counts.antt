@@ -1,5 +1,5 @@
 -- How many blocks and instructions a program has: those of its definitions, whatever numbers their functions have.
-use Rattle.std.proofs.Common.{◌≡◌, ℕ, zero, suc, ◌+◌, List, [], ◌∷◌, ◌++◌, length, map, length-append, refl, sym, ◌∙◌, ap, arith}
+use Rattle.std.proofs.Common.{◌≡◌, ℕ, zero, suc, ◌+◌, List, [], ◌∷◌, ◌++◌, length, length-append, refl, sym, ◌∙◌, ap, arith}
 use mathlib.Core.Path.{ap₂}
 use Rattle.std.specs.List.{sum_by}
 use Rattle.std.proofs.lemmas.List.{length-map}
@@ -9,11 +9,11 @@ use Rattle.qtt_term.specs.Term.{first, rest}
 use Rattle.qtt_erase.specs.Binding.{Tree, ∅, ◌◂◌}
 use Rattle.qtt_erase.specs.Operator.{Operator}
 use Rattle.qtt_erase.specs.Lean.{Abstraction, Lean, Leans, binders, body_binders}
-use Rattle.qtt_erase.specs.Erasure.{Slots, place_at}
+use Rattle.qtt_erase.specs.Erasure.{Slots}
 use Rattle.qtt_closure.specs.Flat.{Function}
-use Rattle.qtt_closure.specs.Conversion.{after, afters, after_own, skip, waiting, bound, captures, captured, closure_at, other, converted, flat, flats, first_or_type, frame, own_function, functions, evaluated_functions, waiting_functions}
+use Rattle.qtt_closure.specs.Conversion.{after, afters, skip, waiting, bound, captures, other, flat, flats, first_or_type, own_function, functions, evaluated_functions, waiting_functions}
 use Rattle.qtt_closure.proofs.Starting.{advance, after-from, number-after}
-use Rattle.qtt_code.specs.Instruction.{Position, Block, Program}
+use Rattle.qtt_code.specs.Instruction.{Position}
 use Rattle.qtt_lower.specs.Lowering.{branches, branch_count, own_width, join_width, width, widths, branch_widths, block, blocks}
 use Rattle.qtt_lower.specs.Programs.{Body, flat_functions, numbers_end, lowered, program_from, code_length, instructions}
 use Rattle.qtt_lower.specs.Sizes.{body_width}

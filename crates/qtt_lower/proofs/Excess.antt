@@ -1,13 +1,11 @@
 -- When a limit is passed.
-use Rattle.std.proofs.Common.{◌≡◌, ℕ, zero, suc, ◌+◌, ◌<◌, ◌≤◌, List, [], ◌∷◌, Bool, true, false, cond, eqb, nat_lt, Some, None, refl, ◌∙◌, ap, arith}
+use Rattle.std.proofs.Common.{◌≡◌, ℕ, ◌+◌, ◌<◌, ◌≤◌, Bool, true, false, cond, nat_lt, Some, None, refl, ◌∙◌, ap, arith}
 use Rattle.std.proofs.lemmas.Grind.{common_steps}
 use Rattle.std.proofs.lemmas.Bool.Decides.{nat_tests}
-use Rattle.qtt_base.specs.declared.place.GlobalId.{GlobalId}
 use Rattle.qtt_base.specs.declared.limits.Quantity.TheVariants.{Blocks, Instructions}
 use Rattle.qtt_base.specs.Limits.{standard}
-use Rattle.qtt_lower.specs.declared.definition.Size.{Size}
 use Rattle.qtt_lower.specs.declared.program.LowerError.TheVariants.{Limit}
-use Rattle.qtt_lower.specs.Compiled.{excess, firsts_from}
+use Rattle.qtt_lower.specs.Compiled.{excess}
 
 excess_by : (b i : ℕ) (x y : Bool) → nat_lt standard.blocks b ≡ x → nat_lt standard.instructions i ≡ y →
     excess b i ≡ cond x (Some (Limit Blocks (standard.blocks + 1))) (cond y (Some (Limit Instructions (standard.instructions + 1))) None)

@@ -5,16 +5,15 @@ use Rattle.std.proofs.lemmas.List.{append-nil}
 use Rattle.std.proofs.lemmas.Grind.{common_steps}
 use Rattle.qtt_base.specs.declared.place.GlobalId.{GlobalId}
 use Rattle.qtt_prims.specs.declared.prim.Primitive.{Primitive}
-use Rattle.qtt_prims.specs.declared.lit.Lit.{Lit}
 use Rattle.qtt_term.specs.Term.{Action}
 use Rattle.qtt_erase.specs.Binding.{Tree, ∅, ◌◂◌, ◌◂◂◌, size}
-use Rattle.qtt_erase.specs.Operator.{Operator, App, Force, Def, Con, Literal, Call, Act, Trap, Ty, Tape}
+use Rattle.qtt_erase.specs.Operator.{Operator, App, Force, Con, Call, Act}
 use Rattle.qtt_erase.specs.View.{side_by_side}
 use Rattle.qtt_closure.specs.declared.flat.FlatTerm as flat_lemmas
 use Rattle.qtt_closure.specs.Flat.{Closure, FlatTerm, FlatTerms}
 use Rattle.qtt_closure.specs.Conversion.{closure_at}
 use Rattle.qtt_code.specs.Instruction.{Position, Instr}
-use Rattle.qtt_lower.specs.Lowering.{given, own, branches, branches_from, joins, given_width, join_width, width, widths, branch_widths, branch_places, branch_count, code, operands, branch_codes}
+use Rattle.qtt_lower.specs.Lowering.{given, own, branches, branches_from, joins, given_width, join_width, width, widths, branch_widths, branch_places, code, operands, branch_codes}
 use Rattle.qtt_lower.specs.Lowered.{all_width, all_code, field_counts, branch_width, branches_width, branches_places, branches_code, switch_code}
 use Rattle.qtt_lower.proofs.Parts.{joins-length}
 

@@ -1,13 +1,10 @@
 -- What a definition's size and blocks want.
-use Rattle.std.proofs.Common.{◌≡◌, ℕ, zero, suc, ◌+◌, ◌<◌, List, [], ◌∷◌, length, map, drop, get_or, Option, Some, None, ◌++◌, append_assoc, refl, sym, ◌∙◌, ap, arith}
-use Rattle.std.specs.Option.{option_map}
+use Rattle.std.proofs.Common.{◌≡◌, ℕ, zero, suc, ◌+◌, ◌<◌, List, [], ◌∷◌, length, map, drop, get_or, Some, None, ◌++◌, append_assoc, refl, sym, ◌∙◌, ap, arith}
 use Rattle.std.proofs.lemmas.Grind.{common_steps}
 use Rattle.std.proofs.lemmas.List.{map-append}
-use Rattle.std.proofs.lemmas.List.Sums.{sum_by-cons}
 use Rattle.qtt_base.specs.declared.place.GlobalId.{GlobalId}
 use Rattle.qtt_term.specs.Signature.{Definition, Env, definition_of}
 use Rattle.qtt_erase.specs.Erasure.{erased_body, erased_bodies}
-use Rattle.qtt_erase.specs.Lean.{Lean}
 
 pub body_found : (E : Env) (d : GlobalId) (D : Definition) → Some D ≡ E.definition d → erased_bodies E d ≡ erased_body E D.mult D.body
 body_found E d D e = ap (λ o. erased_body E (definition_of o).mult (definition_of o).body) (sym e)

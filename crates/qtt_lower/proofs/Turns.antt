@@ -1,5 +1,5 @@
 -- The definitions of an environment in turn: their sizes, first blocks and blocks are those of its program.
-use Rattle.std.proofs.Common.{◌≡◌, ◌≢◌, ℕ, zero, suc, ◌+◌, ◌<◌, ◌≤◌, List, [], ◌∷◌, ◌++◌, Bool, true, false, not, ◌&&◌, cond, eqb, nat_lt, min, ◌⊎◌, inl, inr, length, map, Option, Some, None, refl, sym, ◌∙◌, ap, arith}
+use Rattle.std.proofs.Common.{◌≡◌, ℕ, ◌+◌, ◌<◌, ◌≤◌, List, [], ◌∷◌, ◌++◌, true, not, cond, eqb, nat_lt, ◌⊎◌, inl, inr, length, map, Option, Some, None, refl, sym, ◌∙◌, ap, arith}
 use mathlib.Core.Path.{ap₂}
 use Rattle.std.specs.List.{list_all, sum_by}
 use Rattle.std.proofs.lemmas.Bool.Decides.{nat_tests}
@@ -7,18 +7,16 @@ use Rattle.std.proofs.lemmas.List.Sums.{sum_by-cons}
 use Rattle.qtt_base.specs.declared.place.GlobalId.{GlobalId}
 use Rattle.qtt_base.specs.Limits.{standard}
 use Rattle.qtt_term.specs.Term.{same_id}
-use Rattle.qtt_term.specs.Keyed.{with_id, ids_differ}
+use Rattle.qtt_term.specs.Keyed.{ids_differ}
 use Rattle.qtt_term.specs.Signature.{Env}
 use Rattle.qtt_term.proofs.Order.{found_first, found_behind, not_true}
 use Rattle.std.proofs.lemmas.Bool.{ne_eqb, and_parts}
 use Rattle.qtt_erase.specs.Lean.{Lean}
 use Rattle.qtt_erase.specs.Erasure.{erased_bodies}
-use Rattle.qtt_code.specs.Instruction.{Block, Program}
-use Rattle.qtt_lower.specs.declared.definition.Size.{Size}
 use Rattle.qtt_base.specs.declared.limits.Quantity.TheVariants.{Blocks, Instructions}
 use Rattle.qtt_lower.specs.declared.program.LowerError.TheVariants.{Limit}
-use Rattle.qtt_lower.specs.Programs.{Base, Body, base_id, with_body, bodies, bases_from, bases, program, entry, block_of, flat_functions, numbers_end, lowered, program_from}
-use Rattle.qtt_lower.specs.Sizes.{body_width, block_count, instruction_count, capped, size, blocks_of}
+use Rattle.qtt_lower.specs.Programs.{Base, base_id, with_body, bodies, bases_from, bases, program, entry, block_of, flat_functions, numbers_end, lowered, program_from}
+use Rattle.qtt_lower.specs.Sizes.{block_count, instruction_count, capped, blocks_of}
 use Rattle.qtt_lower.specs.Compiled.{excess, excess_of, sized, total_blocks, total_instructions, firsts_from, blocks_in_turn}
 use Rattle.qtt_lower.specs.View.{base_list}
 use Rattle.qtt_lower.proofs.Counts.{body_blocks, body_instructions, numbers-taken, program-blocks, program-instructions}

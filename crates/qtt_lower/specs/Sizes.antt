@@ -10,7 +10,7 @@ use Rattle.qtt_closure.specs.Flat.{Function}
 use Rattle.qtt_code.specs.Instruction.{Position, Block}
 use Rattle.qtt_lower.specs.declared.definition.Size.{Size}
 use Rattle.qtt_lower.specs.Lowering.{width}
-use Rattle.qtt_lower.specs.Programs.{Base, Body, entry, flat_functions, lowered}
+use Rattle.qtt_lower.specs.Programs.{Base, entry, flat_functions, lowered}
 
 abbrev pub body_width : Function → ℕ
 body_width F = width Position.tail F.body

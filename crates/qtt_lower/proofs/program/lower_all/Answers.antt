@@ -1,13 +1,12 @@
-use Rattle.std.proofs.Common.{◌≡◌, ◌≤◌, map, sym, ◌∙◌, ap, subst, arith}
+use Rattle.std.proofs.Common.{◌≡◌, ◌≤◌, map, sym, ◌∙◌, ap, subst}
 use mathlib.Core.Path.{ap₂}
 use Rattle.std.proofs.lemmas.Result.{err_from_is_err_and}
 use Rattle.qtt_base.specs.Limits.{standard}
-use Rattle.qtt_base.specs.declared.place.GlobalId.{GlobalId}
 use Rattle.qtt_term.specs.Globals.{env}
 use Rattle.qtt_erase.specs.Erasure.{erased_bodies}
 use Rattle.qtt_lower.specs.Sizes.{blocks_of}
 use Rattle.qtt_lower.specs.Programs as programs
-use Rattle.qtt_lower.specs.Compiled.{definition_ids, bodies_of, joined, blocks_in_turn, excess, excess_of, program_of, sized, total_blocks, total_instructions, firsts_from}
+use Rattle.qtt_lower.specs.Compiled.{definition_ids, bodies_of, joined, excess, sized, total_blocks, total_instructions, firsts_from}
 use Rattle.qtt_lower.specs.View.{bases, base_list, part_list}
 use Rattle.qtt_lower.proofs.Turns.{same_firsts, blocks_are_program, program_excess}
 use Rattle.qtt_lower.proofs.Joining.{fails}
