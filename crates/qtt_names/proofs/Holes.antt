@@ -1,5 +1,5 @@
 -- The hole in the last of several statements.
-use Rattle.std.proofs.Common.{◌≡◌, ℕ, suc, ◌-◌, List, [], ◌∷◌, Option, Some, None, map, length, slice_get, refl, ap, sym, ◌∙◌, arith}
+use Rattle.std.proofs.Common.{◌≡◌, ℕ, suc, ◌-◌, List, [], ◌∷◌, Option, Some, None, map, length, slice_get, refl, ap, ◌∙◌, arith}
 use Rattle.qtt_syntax.specs.declared.expr.Local.{Local}
 use Rattle.qtt_syntax.specs.declared.expr.Statement.{Statement}
 use Rattle.qtt_syntax.specs.Tree.{statements}

@@ -6,7 +6,6 @@ use Rattle.std.proofs.lemmas.List.Folds.{list_all-append}
 use Rattle.std.proofs.lemmas.List.Elements.{filter_map-append}
 use Rattle.qtt_base.specs.declared.place.GlobalId.{GlobalId}
 use Rattle.qtt_syntax.specs.declared.expr.Target.TheVariants.{Global}
-use Rattle.qtt_names.specs.declared.target.Found.{Found}
 use Rattle.qtt_names.specs.declared.target.Found.TheVariants.{One, Several}
 use Rattle.qtt_names.specs.Target.{same_id, one_of, with_one}
 

@@ -1,5 +1,5 @@
 -- The parameters of a family.
-use Rattle.std.proofs.Common.{◌≡◌, ℕ, List, [], ◌∷◌, ◌++◌, map, fold, sym, ◌∙◌, append_assoc, append-nil}
+use Rattle.std.proofs.Common.{◌≡◌, ℕ, List, [], ◌∷◌, ◌++◌, fold, sym, ◌∙◌, append_assoc, append-nil}
 use Rattle.std.proofs.lemmas.Grind.{common_steps}
 use Rattle.qtt_syntax.specs.Tree.{Param}
 use Rattle.qtt_names.specs.Resolved.{param_name, param_names, behind_param}

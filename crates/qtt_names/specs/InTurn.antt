@@ -1,5 +1,5 @@
 -- One after another.
-use Rattle.std.specs.Prelude.{List, [], ◌∷◌, fold, Ok}
+use Rattle.std.specs.Prelude.{List, [], ◌∷◌, Ok}
 use Rattle.qtt_names.specs.Answer.{Answer, ◌>>=◌}
 
 -- Each of a list in turn, behind what stands before it: `next` says what stands before the one behind.

@@ -1,5 +1,5 @@
 -- A module's text with the targets of its names, or the first fault in text order.
-use Rattle.std.specs.Prelude.{ℕ, suc, ◌+◌, Bool, false, cond, List, [], ◌∷◌, ◌++◌, codes, length, map, Option, Some, None, Ok}
+use Rattle.std.specs.Prelude.{ℕ, ◌+◌, Bool, false, cond, List, [], ◌∷◌, ◌++◌, codes, length, map, Option, Some, None, Ok}
 use Rattle.std.specs.List.{flat_map}
 use Rattle.qtt_base.specs.declared.place.Span.{Span}
 use Rattle.qtt_usage.specs.declared.mult.Mult.{Mult}

@@ -3,7 +3,6 @@ use Rattle.std.specs.Prelude.{ℕ, ◌==◌, Bool, true, cond, nat_lt, ◌&&◌,
 use Rattle.std.specs.List.{list_all}
 use Rattle.qtt_base.specs.declared.place.GlobalId.{GlobalId}
 use Rattle.qtt_syntax.specs.declared.expr.Named.{Named}
-use Rattle.qtt_syntax.specs.declared.expr.Target.{Target}
 use Rattle.qtt_syntax.specs.declared.expr.Target.TheVariants.{Unknown, Local, Global}
 use Rattle.qtt_names.specs.Answer.{Answer, unbound, ambiguous}
 use Rattle.qtt_names.specs.declared.scope.OwnItem.{OwnItem}

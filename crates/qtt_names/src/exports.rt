@@ -1,6 +1,7 @@
 //! What a module gives to those that import it.
 
-ghost use Rattle.std.specs.Prelude.{◌≡◌, ◌<◌, ◌^◌, [], length, IfOk};
+ghost use Rattle.std.specs.Prelude.{◌≡◌, ◌<◌, ◌^◌, [], length, map, IfOk};
+ghost use Rattle.qtt_names.specs.Exports.{exports_of, sig_of};
 ghost use Rattle.qtt_names.specs.PrimNames.{prim_name as name_of_prim, prim_items as items_of_prim, with_names};
 
 use crate::target::part;
@@ -27,6 +28,43 @@ pub struct Sig {
     pub braces: u32,
     pub params: u32,
     pub ty: Expr,
+}
+
+impl Exports {
+    /// An equal value.
+    pub fn copy(&self, alloc: Global) -> Result<Exports, MemoryError>
+        ensures { IfOk result (λ copy. exports_of copy ≡ exports_of self.now) }
+    {
+        Ok(Exports {
+            module: self.module,
+            name: self.name.copy()?,
+            items: copied_items(&self.items)?,
+            sigs: copied_sigs(alloc, &self.sigs)?,
+        })
+    }
+}
+
+impl Sig {
+    /// An equal value.
+    pub fn copy(&self, alloc: Global) -> Result<Sig, MemoryError>
+        ensures { IfOk result (λ copy. sig_of copy ≡ sig_of self.now) }
+    {
+        Ok(Sig {
+            braces: self.braces,
+            params: self.params,
+            ty: self.ty.copy(alloc)?,
+        })
+    }
+}
+
+fn copied_sigs(alloc: Global, sigs: &[Sig]) -> Result<Vec<Sig>, MemoryError>
+    ensures { IfOk result (λ copies. map sig_of copies.items ≡ map sig_of sigs.now) }
+{
+    let mut copies = Vec::with_capacity(alloc, sigs.len())?;
+    for sig in sigs {
+        copies.push(sig.copy(alloc)?)?;
+    }
+    Ok(copies)
 }
 
 /// The names of Prim's items, in the order of their numbers.

@@ -2,7 +2,7 @@
 use Rattle.std.proofs.Common.{◌≡◌, ◌∙◌, ap, sym, arith, Ok, map, fold, [], ◌∷◌, ◌++◌}
 use Rattle.std.proofs.lemmas.Grind.{common_steps}
 use Rattle.qtt_syntax.specs.declared.expr.Local.{Local}
-use Rattle.qtt_syntax.specs.Tree.Tree.{apply, lambda, letting, doing}
+use Rattle.qtt_syntax.specs.Tree.Tree.{letting}
 use Rattle.qtt_syntax.specs.Tree.Statement.{local}
 use Rattle.qtt_syntax.specs.View.{tree_of, written_type, argument_of, binder_of, statement_of}
 use Rattle.qtt_syntax.proofs.Rows.{apply_view, lambda_view, do_view, let_view, local_view}
