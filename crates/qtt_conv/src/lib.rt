@@ -1,0 +1,4 @@
+//! Questions about terms, answered by contraction with substitution.
+#![tactic(auto)]
+
+mod frame;
