@@ -54,16 +54,16 @@ contracting-is_no_value E (node (Form.tape n) ts) s e = absurd (none≢some e)
 
 -- ---- the contraction of a frame around a term
 -- what is behind the parameters
-skip-front : (ts : List Term) (ss : Terms) → skip (length ts) (side_by_side ts +++ ss) ≡ ss
+pub skip-front : (ts : List Term) (ss : Terms) → skip (length ts) (side_by_side ts +++ ss) ≡ ss
 skip-front [] ss = refl
 skip-front (t ∷ ts) ss = skip-front ts ss
 
 -- what is behind the branches
-scrutinee-last : (bs : List (ℕ × Term)) (t : Term) → scrutinee (map (λ b. b.0) bs) (side_by_side (map (λ b. b.1) bs) +++ (t ▸ ε)) ≡ Some t
+pub scrutinee-last : (bs : List (ℕ × Term)) (t : Term) → scrutinee (map (λ b. b.0) bs) (side_by_side (map (λ b. b.1) bs) +++ (t ▸ ε)) ≡ Some t
 scrutinee-last [] t = refl
 scrutinee-last (b ∷ bs) t = scrutinee-last bs t
 
-literals-stop : (ls : List Lit) (t : Term) (ts : Terms) → as_lit t ≡ None → literals (literal_terms ls +++ (t ▸ ts)) ≡ None
+pub literals-stop : (ls : List Lit) (t : Term) (ts : Terms) → as_lit t ≡ None → literals (literal_terms ls +++ (t ▸ ts)) ≡ None
 literals-stop [] t ts e = rw e refl
 literals-stop (l ∷ ls) t ts e = rw (literals-stop ls t ts e) refl
 

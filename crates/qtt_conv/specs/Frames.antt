@@ -1,9 +1,12 @@
 -- Terms taken apart on the way to their heads: frames, each around a place, and what stands in the innermost place.
-use Rattle.std.specs.Prelude.{◌≡◌, ℕ, ◌+◌, List, [], ◌∷◌, map, length, Option, Some, None}
+use Rattle.std.specs.Prelude.{◌≡◌, ℕ, ◌+◌, List, [], ◌∷◌, map, length, slice_get, Option, Some, None, cond, eqb}
+use Rattle.qtt_base.specs.declared.place.GlobalId.{GlobalId}
 use Rattle.qtt_prims.specs.declared.lit.Lit.{Lit}
-use Rattle.qtt_term.specs.Term.{Named, Form, Term, Terms, node, ε, ◌▸◌, ◌+++◌}
+use Rattle.qtt_term.specs.declared.term.ConId.{ConId}
+use Rattle.qtt_term.specs.Term.{Named, Form, Term, Terms, node, ε, ◌▸◌, ◌+++◌, same_id}
+use Rattle.qtt_term.specs.Signature.{Env}
 use Rattle.qtt_term.specs.View.{term, terms, branches, side_by_side}
-use Rattle.qtt_term.specs.Contraction.{as_lit, literals, literal_term}
+use Rattle.qtt_term.specs.Contraction.{chain, as_lit, literal_term, delta, literals, computed}
 use Rattle.qtt_conv.specs.declared.frame.Branching.{Branching}
 use Rattle.qtt_conv.specs.declared.frame.Deletion.{Deletion}
 use Rattle.qtt_conv.specs.declared.frame.Frame.{Frame}
@@ -68,3 +71,18 @@ IsFocus (node (Form.case q f k m ns) ts) = ⊥
 IsFocus (node (Form.delete q) ts) = ⊥
 IsFocus (node (Form.named (Named.prim p)) ts) = AreLiterals ts
 IsFocus _ = Unit {0}
+
+-- ---- branches
+-- the body of a branch under so many fields
+abbrev pub fitting_body : ℕ → ℕ × Term → Option Term
+fitting_body n b = cond (eqb n b.0) (Some b.1) None
+
+-- of a Case of a family with these branches, the body for a constructor with so many fields
+abbrev pub body_for : GlobalId → List (ℕ × Term) → ConId → ℕ → Option Term
+body_for f bs con n = cond (same_id f con.family) (chain (slice_get bs con.place) (fitting_body n)) None
+
+-- ---- what a term contracts to where the head of none of its components is taken
+abbrev pub focus_step : Env → Term → Option Term
+focus_step E (node (Form.named (Named.def d)) ts) = delta E d ts
+focus_step E (node (Form.named (Named.prim p)) ts) = chain (literals ts) (computed p)
+focus_step E _ = None
