@@ -1,3 +1,4 @@
 pub mod Literals
 pub mod Plugging
 pub mod Contracting
+pub mod Stepping

@@ -1,6 +1,8 @@
 //! Terms taken apart at their heads, and one contraction after the other.
 
-ghost use Rattle.std.specs.Prelude.{◌≡◌, IfOk};
+ghost use Rattle.std.specs.Prelude.{◌≡◌, None, IfOk};
+ghost use Rattle.qtt_term.specs.Signature.{Env};
+ghost use Rattle.qtt_term.specs.Question.{head_step};
 ghost use Rattle.qtt_term.specs.Globals.{env as env_of};
 ghost use Rattle.qtt_term.specs.View.{term};
 ghost use Rattle.qtt_conv.specs.Frames.{plug_all};
@@ -40,20 +42,28 @@ impl Spine {
         requires { IsSettled self }
         ensures { IfOk result (λ s. StepsTo (env_of env.now) (whole self) s) }
     {
-        let Spine { focus, mut frames } = self;
-        if let Some(contracted) = focus_contracted(alloc, env, &focus)? {
-            return Ok(Step::Contracted(resumed(alloc, frames, contracted)?));
+        let Spine { focus, frames } = self;
+        match focus_contracted(alloc, env, &focus)? {
+            Some(contracted) => Ok(Step::Contracted(resumed(alloc, frames, contracted)?)),
+            None => frame_step(alloc, frames, focus),
         }
-        match frames.pop() {
-            Some(frame) => match frame_contracted(alloc, &frame, &focus)? {
-                Some(contracted) => Ok(Step::Contracted(resumed(alloc, frames, contracted)?)),
-                None => {
-                    let inner = frame.plugged(alloc, focus)?;
-                    Ok(Step::Head(rebuilt(alloc, frames, inner)?))
-                }
-            },
-            None => Ok(Step::Head(focus)),
-        }
+    }
+}
+
+/// A step where what stands in the innermost place does not contract by itself.
+fn frame_step(alloc: Global, mut frames: Vec<Frame>, focus: Term) -> Result<Step, MemoryError>
+    requires { Waits frames.items (term focus) }
+    ensures { IfOk result (λ s. (E : Env) → head_step E (term focus) ≡ None → StepsTo E (plug_all frames.items (term focus)) s) }
+{
+    match frames.pop() {
+        Some(frame) => match frame_contracted(alloc, &frame, &focus)? {
+            Some(contracted) => Ok(Step::Contracted(resumed(alloc, frames, contracted)?)),
+            None => {
+                let inner = frame.plugged(alloc, focus)?;
+                Ok(Step::Head(rebuilt(alloc, frames, inner)?))
+            }
+        },
+        None => Ok(Step::Head(focus)),
     }
 }
 
@@ -63,14 +73,13 @@ fn resumed(alloc: Global, mut frames: Vec<Frame>, contracted: Term) -> Result<Sp
     ensures settled { IfOk result (λ s. IsSettled s) }
 {
     match contracted {
-        Term::Lit(literal) => {
-            let inner = Term::Lit(literal);
-            let inner = match frames.pop() {
-                Some(frame) => frame.plugged(alloc, inner)?,
-                None => inner,
-            };
-            entered(alloc, frames, &inner)
-        }
+        Term::Lit(literal) => match frames.pop() {
+            Some(frame) => {
+                let inner = frame.plugged(alloc, Term::Lit(literal))?;
+                entered(alloc, frames, &inner)
+            }
+            None => entered(alloc, frames, &Term::Lit(literal)),
+        },
         other => entered(alloc, frames, &other),
     }
 }

@@ -5,12 +5,12 @@ use Rattle.qtt_term.specs.View.{term}
 use Rattle.qtt_conv.specs.Spines.{whole, IsSettled}
 use Rattle.qtt_conv.proofs.heads.head_within.Given as goal
 
-abbrev pub invariant-loop : goal.invariant-loop
-invariant-loop l = record {
+abbrev pub invariant-loop-head : goal.invariant-loop-head
+invariant-loop-head l = record {
   head : head_from (env l.env) (l.n - l.made) l.made (whole l.spine) ≡ head (env l.env) l.n (term l.t);
   settled : IsSettled l.spine;
   within : l.made ≤ l.n;
 }
 
-abbrev pub decreases-loop : goal.decreases-loop
-decreases-loop l = l.n - l.made
+abbrev pub decreases-loop-head : goal.decreases-loop-head
+decreases-loop-head l = l.n - l.made

@@ -5,11 +5,11 @@ use Rattle.qtt_conv.specs.Frames.{plug_all}
 use Rattle.qtt_conv.specs.Spines.{Waits}
 use Rattle.qtt_conv.proofs.spine.entered.Given as goal
 
-abbrev pub invariant-loop-frame : goal.invariant-loop-frame
-invariant-loop-frame l = record {
+abbrev pub invariant-loop-frames : goal.invariant-loop-frames
+invariant-loop-frames l = record {
   whole : plug_all l.frames.items (term l.inner) ≡ plug_all l.initial.frames.items (term l.initial.inner);
   waits : Waits l.frames.items (term l.inner);
 }
 
-abbrev pub decreases-loop-frame : goal.decreases-loop-frame
-decreases-loop-frame l = weight (term l.inner)
+abbrev pub decreases-loop-frames : goal.decreases-loop-frames
+decreases-loop-frames l = weight (term l.inner)
