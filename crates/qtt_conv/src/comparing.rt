@@ -1,11 +1,11 @@
 //! Comparisons: pairs of terms one after the other, under one count.
 
-ghost use Rattle.std.specs.Prelude.{◌≡◌, ◌<◌, ◌++◌, vec_len, IfOk, OnOk};
+ghost use Rattle.std.specs.Prelude.{◌≡◌, ◌∷◌, ◌++◌, vec_len, IfOk, OnOk};
 ghost use Rattle.qtt_term.specs.Globals.{env as env_of};
 ghost use Rattle.qtt_term.specs.Answers.{answer as answer_of};
 ghost use Rattle.qtt_term.specs.Question.{compare as compare_within, within_count, beside};
 ghost use Rattle.qtt_term.specs.View.{term, terms, side_by_side};
-ghost use Rattle.qtt_conv.specs.Stacks.{pairs, RoundTo};
+ghost use Rattle.qtt_conv.specs.Stacks.{item_of, pairs, RoundTo, TakesTo};
 
 use crate::pair::{Outcome, compared_pair};
 use qtt_base::MemoryError;
@@ -65,19 +65,40 @@ fn one_round(
     ensures { IfOk result (λ r. RoundTo (env_of env.now) n (pairs stack.items) r) }
 {
     while let Some(pair) = stack.pop() {
-        match compared_pair(alloc, n, env, &pair.left, &pair.right)? {
-            Outcome::Same => {}
-            Outcome::Differs => return Ok(Round::Answered(Answer::Different(pair.path))),
-            Outcome::Spent => return Ok(Round::Answered(Answer::Spent)),
-            Outcome::Splits(made, lefts, rights) => {
-                push_pairs(alloc, &mut stack, &pair.path, lefts, rights)?;
-                if made > 0 {
-                    return Ok(Round::Contracted(n - made, stack));
+        match pair_taken(alloc, n, env, stack, pair)? {
+            Round::Answered(answer) => return Ok(Round::Answered(answer)),
+            Round::Contracted(fewer, pairs) => {
+                if fewer < n {
+                    return Ok(Round::Contracted(fewer, pairs));
                 }
+                stack = pairs;
             }
         }
     }
     Ok(Round::Answered(Answer::Equal))
+}
+
+/// Compares one pair; its components join the others.
+fn pair_taken(
+    alloc: Global,
+    n: u64,
+    env: &Globals,
+    stack: Vec<Pair>,
+    pair: Pair,
+) -> Result<Round, MemoryError>
+    ensures { IfOk result (λ r. TakesTo (env_of env.now) n (item_of pair ∷ pairs stack.items) r) }
+{
+    let Pair { path, left, right } = pair;
+    match compared_pair(alloc, n, env, &left, &right)? {
+        Outcome::Same => Ok(Round::Contracted(n, stack)),
+        Outcome::Differs => Ok(Round::Answered(Answer::Different(path))),
+        Outcome::Spent => Ok(Round::Answered(Answer::Spent)),
+        Outcome::Splits(made, lefts, rights) => {
+            let mut stack = stack;
+            push_pairs(alloc, &mut stack, &path, lefts, rights)?;
+            Ok(Round::Contracted(n - made, stack))
+        }
+    }
 }
 
 /// Pushes the pairs of components, the last one first. A number of 2^32 or more wants memory.

@@ -1,4 +1,4 @@
-use Rattle.std.proofs.Common.{◌≡◌, ◌-◌, ◌≤◌, ap, ◌∙◌, sym, arith}
+use Rattle.std.proofs.Common.{◌≡◌, ◌-◌, ◌≤◌, refl, ap, ◌∙◌, sym, arith}
 use Rattle.std.proofs.lemmas.Grind.{common_steps}
 use Rattle.std.proofs.lemmas.Result.{IfOk-weaker}
 use Rattle.qtt_term.specs.Answers.{head as head_of}
@@ -11,7 +11,7 @@ pub returns-then-same : goal.returns-then-same
 returns-then-same c = λ path is.
     let t = term c.args.t.now in
     let u = term c.args.u.now in
-    pair-same (env c.args.env.now) c.args.n path t u is (same-together t u (c.if-same.ensures.0 tt))
+    pair-same (env c.args.env.now) c.args.n path t u is (same-together t u (c.if-same.ensures.0 refl))
 
 pub overflow_sub-n : goal.overflow_sub-n
 overflow_sub-n c =
@@ -31,7 +31,7 @@ returns-in-Done-2 c =
     let E = env c.args.env.now in
     let t = term c.args.t.now in
     let u = term c.args.u.now in
-    let apart = same-apart t u (λ e. c.if-same.ensures.1 e) in
+    let apart = same-apart t u (λ e. absurd (cc (c.if-same.ensures.1 e))) in
     IfOk-weaker c.heads_compared.result _ _
     (λ o leads. heads-lead E c.args.n c.in-Done.made c.in-Done-2.more t u (term c.in-Done.left) (term c.in-Done-2.right) o apart
     (sym c.in_ok-left.ensures ∙ ap head_of c.in-Done.is) (sym c.in_ok-right-in-Done.ensures ∙ ap head_of c.in-Done-2.is) leads)
@@ -42,7 +42,7 @@ returns-in-Spent-2 c = λ path is.
     let E = env c.args.env.now in
     let t = term c.args.t.now in
     let u = term c.args.u.now in
-    right-spent E c.args.n c.in-Done.made path t u (term c.in-Done.left) is (same-apart t u (λ e. c.if-same.ensures.1 e))
+    right-spent E c.args.n c.in-Done.made path t u (term c.in-Done.left) is (same-apart t u (λ e. absurd (cc (c.if-same.ensures.1 e))))
     (sym c.in_ok-left.ensures ∙ ap head_of c.in-Done.is) (sym c.in_ok-right-in-Done.ensures ∙ ap head_of c.in-Spent-2.is)
 
 pub returns-in-Spent : goal.returns-in-Spent
@@ -50,4 +50,4 @@ returns-in-Spent c = λ path is.
     let E = env c.args.env.now in
     let t = term c.args.t.now in
     let u = term c.args.u.now in
-    left-spent E c.args.n path t u is (same-apart t u (λ e. c.if-same.ensures.1 e)) (sym c.in_ok-left.ensures ∙ ap head_of c.in-Spent.is)
+    left-spent E c.args.n path t u is (same-apart t u (λ e. absurd (cc (c.if-same.ensures.1 e)))) (sym c.in_ok-left.ensures ∙ ap head_of c.in-Spent.is)
