@@ -11,8 +11,8 @@ use Rattle.qtt_conv.specs.declared.comparing.Pair.{Pair}
 use Rattle.qtt_conv.specs.Pairs.{pair}
 use Rattle.qtt_conv.specs.Stacks.{item_of, pairs}
 
-pub pairs-push : (ps : List Pair) (p : Pair) (all : List Pair) → all ≡ ps ++ p ∷ [] → pairs all ≡ item_of p ∷ pairs ps
-pairs-push ps p all is = ap pairs is ∙ go ps
+pub pairs_pushed : (ps : List Pair) (p : Pair) (all : List Pair) → all ≡ ps ++ p ∷ [] → pairs all ≡ item_of p ∷ pairs ps
+pairs_pushed ps p all is = ap pairs is ∙ go ps
   where
     go : (qs : List Pair) → pairs (qs ++ p ∷ []) ≡ item_of p ∷ pairs qs
     go [] = refl
@@ -41,7 +41,7 @@ pushed-goes path lefts rights ls rs p stack all left_is right_is as_many place i
     let before : List Item = beside path 0 (side_by_side (terms ls)) (side_by_side (terms rs)) in
     let same_place : 0 + length (terms ls) ≡ length ls = omega (arith, length-map ls term) in
     let lengths : length (terms ls) ≡ length (terms rs) = length-map ls term ∙ as_many ∙ sym (length-map rs term) in
-    ap (λ is. before ++ is) (pairs-push stack p all is ∙ ap (λ i. pair i (term p.left) (term p.right) ∷ pairs stack) (place ∙ ap (λ k. path ++ k ∷ []) (sym same_place)))
+    ap (λ is. before ++ is) (pairs_pushed stack p all is ∙ ap (λ i. pair i (term p.left) (term p.right) ∷ pairs stack) (place ∙ ap (λ k. path ++ k ∷ []) (sym same_place)))
     ∙ sym (append_assoc before (pair (path ++ (0 + length (terms ls)) ∷ []) (term p.left) (term p.right) ∷ []) (pairs stack))
     ∙ ap (λ is. is ++ pairs stack)
     (sym (beside-push path 0 (terms ls) (terms rs) (term p.left) (term p.right) lengths)

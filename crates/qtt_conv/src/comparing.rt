@@ -56,6 +56,7 @@ pub fn compared(
 }
 
 /// Compares pairs, the last of them first, until a contraction is made or the answer is known.
+#[tactic(auto, using(crate::proofs::Stacking::pairs_pushed))]
 fn one_round(
     alloc: Global,
     n: u64,
