@@ -21,6 +21,7 @@ const BOOL: GlobalId = GlobalId {
     module: ModuleId(0),
     item: 4,
 };
+
 const EQ: GlobalId = GlobalId {
     module: ModuleId(0),
     item: 13,
@@ -174,11 +175,7 @@ fn call_contracted(
 }
 
 /// What a primitive answers on literals, as a term.
-fn computed(
-    alloc: Global,
-    prim: Primitive,
-    values: &[Lit],
-) -> Result<Option<Term>, MemoryError>
+fn computed(alloc: Global, prim: Primitive, values: &[Lit]) -> Result<Option<Term>, MemoryError>
     ensures { IfOk result (λ o. option_map term o ≡ computed prim values.now) }
 {
     match apply(alloc, prim, values) {

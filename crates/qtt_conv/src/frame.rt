@@ -119,7 +119,12 @@ fn arguments(
 fn literals_as_terms(alloc: Global, literals: Vec<Lit>) -> Result<Vec<Term>, MemoryError>
     ensures { IfOk result (λ v. v.items ≡ map (λ l. code_term.Lit l) literals.items) }
 {
-    Ok(literals.into_iter().map(|literal| Term::Lit(literal)).collect(alloc)?)
+    Ok(
+        literals
+            .into_iter()
+            .map(|literal| Term::Lit(literal))
+            .collect(alloc)?,
+    )
 }
 
 /// The frame around the component whose head a term takes, and that component; none where the head of no component is taken.

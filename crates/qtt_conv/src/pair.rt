@@ -46,12 +46,7 @@ pub fn compared_pair(
 }
 
 /// Compares two heads but for their components, after so many contractions.
-fn heads_compared(
-    alloc: Global,
-    made: u64,
-    left: Term,
-    right: Term,
-) -> Result<Outcome, MemoryError>
+fn heads_compared(alloc: Global, made: u64, left: Term, right: Term) -> Result<Outcome, MemoryError>
     ensures { IfOk result (λ o. HeadsLeadTo made (term left) (term right) o) }
 {
     if same_outline(&left, &right) {

@@ -19,10 +19,11 @@ returns-in_ok-push_pairs-in-Splits c =
     let ls = side_by_side (terms c.in-Splits.lefts.items) in
     let rs = side_by_side (terms c.in-Splits.rights.items) in
     let rest = pairs c.args.stack.items in
-    let pushed : pairs c.push_pairs.new.stack.items ≡ beside path 0 ls rs ++ rest = c.in_ok-push_pairs-in-Splits.ensures ∙ ap (λ p. beside p 0 ls rs ++ rest) c.deref.ensures.value in
-    (ap (within_count E (c.args.n - c.in-Splits.made)) pushed ∙ sym (splits.goes_on path rest),
-    omega arith,
-    λ e.
-        let within = splits.within in
-        let none : c.in-Splits.made ≡ 0 = omega (arith, within, e) in
-        omega (arith, ap weight_of pushed, weight-append (beside path 0 ls rs) rest, beside-light path 0 ls rs, splits.lighter none))
+    let pushed : pairs c.push_pairs.new.stack.items ≡ beside path 0 ls rs ++ rest = c.in_ok-push_pairs-in-Splits.ensures ∙ ap (λ p. beside p 0 ls rs ++ rest) c.deref.ensures.value in (
+      ap (within_count E (c.args.n - c.in-Splits.made)) pushed ∙ sym (splits.goes_on path rest),
+      omega arith,
+      λ e.
+          let within = splits.within in
+          let none : c.in-Splits.made ≡ 0 = omega (arith, within, e) in
+          omega (arith, ap weight_of pushed, weight-append (beside path 0 ls rs) rest, beside-light path 0 ls rs, splits.lighter none),
+    )

@@ -21,6 +21,7 @@ returns-in_ok-rebuilt-in-None-2 c = λ E h.
     let t = term c.args.focus in
     let is = c.in-Some.ensures.items in
     let fits = c.requires fs f is in
-    let waits = sym (c.in_ok-contracted-in-Some.ensures E fits) ∙ ap (option_map term) c.in-None-2.is in
-    (frame-stuck E fs f t c.args.frames.items is fits waits h,
-    c.in_ok-rebuilt-in-None-2.ensures ∙ ap (plug_all fs) c.in_ok-inner-in-None-2.ensures ∙ sym (plug_all-last fs f t c.args.frames.items is))
+    let waits = sym (c.in_ok-contracted-in-Some.ensures E fits) ∙ ap (option_map term) c.in-None-2.is in (
+      frame-stuck E fs f t c.args.frames.items is fits waits h,
+      c.in_ok-rebuilt-in-None-2.ensures ∙ ap (plug_all fs) c.in_ok-inner-in-None-2.ensures ∙ sym (plug_all-last fs f t c.args.frames.items is),
+    )
