@@ -7,15 +7,15 @@ use Rattle.qtt_confluence.specs.Comparison.{Compared}
 use Rattle.qtt_confluence.specs.Laws.{CountAloneLimits}
 
 -- ---- weights
-weight-positive : (t : Term) → 0 < weight t
+pub weight-positive : (t : Term) → 0 < weight t
 weight-positive (var i) = omega arith
 weight-positive (node F ts) = omega arith
 
-weight-append : (is js : List Item) → weight_of (is ++ js) ≡ weight_of is + weight_of js
+pub weight-append : (is js : List Item) → weight_of (is ++ js) ≡ weight_of is + weight_of js
 weight-append [] js = omega arith
 weight-append (i ∷ is) js = let e : weight_of (is ++ js) ≡ weight_of is + weight_of js = weight-append is js in omega arith
 
-beside-light : (path : List ℕ) (k : ℕ) (ts ss : Terms) → weight_of (beside path k ts ss) ≤ weights ts
+pub beside-light : (path : List ℕ) (k : ℕ) (ts ss : Terms) → weight_of (beside path k ts ss) ≤ weights ts
 beside-light path k ε ss = omega arith
 beside-light path k (t ▸ ts) ε = omega arith
 beside-light path k (t ▸ ts) (s ▸ ss) =

@@ -1,0 +1,4 @@
+pub mod Frames
+pub mod Spines
+pub mod Pairs
+pub mod Stacks
