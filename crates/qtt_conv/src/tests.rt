@@ -14,6 +14,7 @@ const BOOL: GlobalId = GlobalId {
     module: ModuleId(0),
     item: 4,
 };
+
 const EQ: GlobalId = GlobalId {
     module: ModuleId(0),
     item: 13,
@@ -110,10 +111,20 @@ fn sums_take_one_contraction(rt: HostRuntime) -> Result<(), Fail> {
 fn functions_take_arguments_at_their_multiplicity(rt: HostRuntime) -> Result<(), Fail> {
     let alloc = rt.alloc();
     let env = Globals::prim(alloc)?;
-    let applied = Term::app(alloc, Mult::One, identity(alloc, Mult::One, Term::IntTy)?, int(3))?;
+    let applied = Term::app(
+        alloc,
+        Mult::One,
+        identity(alloc, Mult::One, Term::IntTy)?,
+        int(3),
+    )?;
     assert!(rt; is_head(&BySubst.head(alloc, 1, &env, &applied)?, &int(3), 1));
     assert!(rt; is_spent(&BySubst.head(alloc, 0, &env, &applied)?));
-    let wrong = Term::app(alloc, Mult::One, identity(alloc, Mult::Many, Term::IntTy)?, int(3))?;
+    let wrong = Term::app(
+        alloc,
+        Mult::One,
+        identity(alloc, Mult::Many, Term::IntTy)?,
+        int(3),
+    )?;
     assert!(rt; is_head(&BySubst.head(alloc, 1, &env, &wrong)?, &wrong, 0));
     Ok(())
 }
@@ -124,7 +135,12 @@ fn matches_take_their_scrutinee_first(rt: HostRuntime) -> Result<(), Fail> {
     let env = Globals::prim(alloc)?;
     let truth = con(alloc, BOOL, 1, Vec::new(alloc));
     let bool_type = Term::Fam(BOOL, Vec::new(alloc));
-    let scrutinee = Term::app(alloc, Mult::Many, identity(alloc, Mult::Many, bool_type)?, truth)?;
+    let scrutinee = Term::app(
+        alloc,
+        Mult::Many,
+        identity(alloc, Mult::Many, bool_type)?,
+        truth,
+    )?;
     let branches = vec![in alloc; branch(0, int(0)), branch(0, int(1))]?;
     let chosen = case(alloc, BOOL, branches, scrutinee)?;
     assert!(rt; is_head(&BySubst.head(alloc, 2, &env, &chosen)?, &int(1), 2));
@@ -152,7 +168,12 @@ fn matches_take_their_scrutinee_first(rt: HostRuntime) -> Result<(), Fail> {
 fn definitions_count(rt: HostRuntime) -> Result<(), Fail> {
     let alloc = rt.alloc();
     let mut env = Globals::prim(alloc)?;
-    env.add_signature(item(0), Name::new(alloc, "Main.w")?, Mult::Many, Term::Sort(0))?;
+    env.add_signature(
+        item(0),
+        Name::new(alloc, "Main.w")?,
+        Mult::Many,
+        Term::Sort(0),
+    )?;
     env.set_body(item(0), Term::Def(item(0)))?;
     let loops = Term::Def(item(0));
     assert!(rt; is_spent(&BySubst.head(alloc, 10, &env, &loops)?));
@@ -167,12 +188,32 @@ fn definitions_count(rt: HostRuntime) -> Result<(), Fail> {
 fn differences_have_places(rt: HostRuntime) -> Result<(), Fail> {
     let alloc = rt.alloc();
     let env = Globals::prim(alloc)?;
-    let one = con(alloc, BOOL, 0, vec![in alloc; Term::Var(0), con(alloc, BOOL, 1, vec![in alloc; int(1)]?)]?);
-    let other = con(alloc, BOOL, 0, vec![in alloc; Term::Var(0), con(alloc, BOOL, 1, vec![in alloc; int(2)]?)]?);
+    let one = con(
+        alloc,
+        BOOL,
+        0,
+        vec![in alloc; Term::Var(0), con(alloc, BOOL, 1, vec![in alloc; int(1)]?)]?,
+    );
+    let other = con(
+        alloc,
+        BOOL,
+        0,
+        vec![in alloc; Term::Var(0), con(alloc, BOOL, 1, vec![in alloc; int(2)]?)]?,
+    );
     let fields = BySubst.compare(alloc, 0, &env, &one, &other)?;
     assert_eq!(rt; told(alloc, &fields)?.as_str(), "[1, 0]");
-    let left = case(alloc, BOOL, vec![in alloc; branch(0, int(0)), branch(0, int(1))]?, Term::Var(0))?;
-    let right = case(alloc, BOOL, vec![in alloc; branch(0, int(0)), branch(0, int(2))]?, Term::Var(1))?;
+    let left = case(
+        alloc,
+        BOOL,
+        vec![in alloc; branch(0, int(0)), branch(0, int(1))]?,
+        Term::Var(0),
+    )?;
+    let right = case(
+        alloc,
+        BOOL,
+        vec![in alloc; branch(0, int(0)), branch(0, int(2))]?,
+        Term::Var(1),
+    )?;
     let branches = BySubst.compare(alloc, 0, &env, &left, &right)?;
     assert_eq!(rt; told(alloc, &branches)?.as_str(), "[2]");
     let first = call(alloc, Primitive::AddInt, Term::Var(0), int(1))?;
