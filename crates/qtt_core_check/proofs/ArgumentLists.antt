@@ -64,7 +64,7 @@ module _ {E : Env} {n : ℕ} (p : Part) (Γ : Ctx) where
       (sym (sum-assoc (usage_scale x.mult a.mid) b.mid ws) ∙ ap (λ us. usage_sum us ws) (done-is b.after))
 
   pub append-first : (xs ys : List Wanted) (σ : ℕ → Term) (ts ss : Terms) → size ts ≡ length xs →
-      Passes {E} {n} (arguments E p Γ xs σ ts) (arguments E p Γ (xs ++ ys) σ (ts +++ ss))
+      Passes E n (arguments E p Γ xs σ ts) (arguments E p Γ (xs ++ ys) σ (ts +++ ss))
   append-first [] ys σ ε ss z = done-passes (no_usage (length Γ)) (arguments E p Γ ys σ ss)
   append-first [] ys σ (t ▸ ts) ss z = absurd (cc z)
   append-first (x ∷ xs) ys σ ε ss z = absurd (cc z)
@@ -73,8 +73,8 @@ module _ {E : Env} {n : ℕ} (p : Part) (Γ : Ctx) where
       (λ u r. passes-mapped (arguments E p Γ xs (cons t σ) ts) (λ w. usage_sum (usage_scale x.mult u) w) _ _ (append-first xs ys (cons t σ) ts ss (cc z)))
 
   pub append-second : (xs ys : List Wanted) (σ : ℕ → Term) (ts ss : Terms) (us : List Mult) → size ts ≡ length xs →
-      Reaches E n (arguments E p Γ xs σ ts) us → Passes {E} {n} (arguments E p Γ ys (push ts σ) ss) (arguments E p Γ (xs ++ ys) σ (ts +++ ss))
-  append-second [] ys σ ε ss us z r = record { fails = λ f d. d; spent = λ p q d. d }
+      Reaches E n (arguments E p Γ xs σ ts) us → Passes E n (arguments E p Γ ys (push ts σ) ss) (arguments E p Γ (xs ++ ys) σ (ts +++ ss))
+  append-second [] ys σ ε ss us z r = record { fails = λ f d. d; spent = λ x q d. d }
   append-second [] ys σ (t ▸ ts) ss us z r = absurd (cc z)
   append-second (x ∷ xs) ys σ ε ss us z r = absurd (cc z)
   append-second (x ∷ xs) ys σ (t ▸ ts) ss us z r =
@@ -88,7 +88,7 @@ module _ {E : Env} {n : ℕ} (p : Part) (Γ : Ctx) where
       reached (on _ r (on _ on_done on_done)) (sum-none (length Γ) (usage_scale x.mult us) (length-scaled x.mult us ∙ l))
 
 -- ---- the code's lists, argument by argument
-wanted-append : (r : Premise) (Θ Ξ : Tele) → wanted r (Θ ++ Ξ) ≡ wanted r Θ ++ wanted r Ξ
+pub wanted-append : (r : Premise) (Θ Ξ : Tele) → wanted r (Θ ++ Ξ) ≡ wanted r Θ ++ wanted r Ξ
 wanted-append r [] Ξ = refl
 wanted-append r (b ∷ Θ) Ξ = ap (λ ws. record { premise = r; mult = b.0; type = b.1 } ∷ ws) (wanted-append r Θ Ξ)
 
@@ -119,12 +119,13 @@ taken xs x k h e = take_more xs k x h ∙ ap (λ y. take k xs ++ y ∷ []) (sym 
 left : {A : Type 0} (xs : List A) (x : A) (k : ℕ) → k < length xs → x ≡ get_or xs k x → xs ≡ take k xs ++ (x ∷ drop (suc k) xs)
 left xs x k h e = sym (take-append-drop k xs) ∙ ap (λ ys. take k xs ++ ys) (drop-cons xs k x h ∙ ap (λ y. y ∷ drop (suc k) xs) (sym e))
 
-module _ {E : Env} {n : ℕ} (p : Part) (Γ : Ctx) (r : Premise) (bs : List (Mult × code.Term)) (σ : ℕ → Term) (ts : List code.Term) where
-  sizes : (k : ℕ) → k ≤ length bs → length bs ≡ length ts → size (side_by_side (terms (take k ts))) ≡ length (wanted r (tele (take k bs)))
-  sizes k h e =
-      size-side (terms (take k ts)) ∙ length-map (take k ts) term ∙ length-take-le k ts (omega arith)
-      ∙ sym (length-wanted r (tele (take k bs)) ∙ length-tele (take k bs) ∙ length-take-le k bs h)
+sizes : (r : Premise) (bs : List (Mult × code.Term)) (ts : List code.Term) (k : ℕ) → k ≤ length bs → length bs ≡ length ts →
+    size (side_by_side (terms (take k ts))) ≡ length (wanted r (tele (take k bs)))
+sizes r bs ts k h e =
+    size-side (terms (take k ts)) ∙ length-map (take k ts) term ∙ length-take-le k ts (omega arith)
+    ∙ sym (length-wanted r (tele (take k bs)) ∙ length-tele (take k bs) ∙ length-take-le k bs h)
 
+module _ {E : Env} {n : ℕ} (p : Part) (Γ : Ctx) (r : Premise) (bs : List (Mult × code.Term)) (σ : ℕ → Term) (ts : List code.Term) where
   pub args-none : (us : List Mult) → us ≡ no_usage (length Γ) → SoFar E n p Γ r bs σ ts 0 us
   args-none us e = record { reached = reached on_done (sym e); counted = ap length e ∙ length-none (length Γ) }
 
@@ -142,7 +143,7 @@ module _ {E : Env} {n : ℕ} (p : Part) (Γ : Ctx) (r : Premise) (bs : List (Mul
       record {
         reached =
             reached (subst (λ m. Reaches E n m (usage_sum acc (usage_scale x.0 us))) (sym (ap₂ (λ ws ss. arguments E p Γ ws σ ss) w d))
-            (append-reaches p Γ (wanted r (tele (take k bs))) (want r x ∷ []) σ (side_by_side (terms (take k ts))) (term a ▸ ε) acc (usage_scale x.0 us) (sizes k (omega arith) e)
+            (append-reaches p Γ (wanted r (tele (take k bs))) (want r x ∷ []) σ (side_by_side (terms (take k ts))) (term a ▸ ε) acc (usage_scale x.0 us) (sizes r bs ts k (omega arith) e)
             m s.reached (one-reaches p Γ (want r x) (push (side_by_side (terms (take k ts))) σ) (term a) us l t)))
             (sym z);
         counted = ap length z ∙ length-sum acc (usage_scale x.0 us) (length Γ) s.counted m;
@@ -161,10 +162,18 @@ module _ {E : Env} {n : ℕ} (p : Part) (Γ : Ctx) (r : Premise) (bs : List (Mul
       subst (λ m. Refuses E n m f) (sym (ap₂ (λ ws ss. arguments E p Γ ws σ ss) w d))
       (refused
       (append-second p Γ (wanted r (tele (take k bs))) (want r x ∷ wanted r (tele (drop (suc k) bs))) σ (side_by_side (terms (take k ts)))
-      (term a ▸ side_by_side (terms (drop (suc k) ts))) acc (sizes k (omega arith) e) s.reached)
+      (term a ▸ side_by_side (terms (drop (suc k) ts))) acc (sizes r bs ts k (omega arith) e) s.reached)
       f (here E n _ _ f t))
 
   pub args-all : (k : ℕ) (acc : List Mult) → length bs ≡ length ts → length ts ≤ k → SoFar E n p Γ r bs σ ts k acc →
       Reaches E n (arguments E p Γ (wanted r (tele bs)) σ (side_by_side (terms ts))) acc
   args-all k acc e h s =
       subst (λ m. Reaches E n m acc) (ap₂ (λ bs ts. arguments E p Γ (wanted r (tele bs)) σ (side_by_side (terms ts))) (take_all k bs (omega arith)) (take_all k ts h)) s.reached
+
+-- one more value behind those of a telescope before it
+pub values-step : (vs ws us : List code.Term) (x a : code.Term) (ts : List code.Term) (k : ℕ) → k < length ts → a ≡ get_or ts k a → ws ≡ vs ++ x ∷ [] → term x ≡ term a →
+    terms vs ≡ terms us ++ terms (take k ts) → terms ws ≡ terms us ++ terms (take (k + 1) ts)
+values-step vs ws us x a ts k h i e s so =
+    ap terms e ∙ map-append term vs (x ∷ []) ∙ ap₂ (λ us t. us ++ t ∷ []) so s
+    ∙ append_assoc (terms us) (terms (take k ts)) (term a ∷ [])
+    ∙ ap (λ vs. terms us ++ vs) (sym (ap terms (taken ts a k h i) ∙ map-append term (take k ts) (a ∷ [])))

@@ -104,7 +104,7 @@ push-newest m (suc k) τ i h = by_place (push-newest m k (cons (var (shift m k))
         let same : k ≡ i = omega arith in
         ap (push (above m k) (cons (var (shift m k)) τ)) here ∙ push-past m k (cons (var (shift m k)) τ) 0 ∙ ap (λ j. var (shift m j)) same
 
-push-append : (ts ss : Terms) (σ : ℕ → Term) → push (ts +++ ss) σ ≡ push ss (push ts σ)
+pub push-append : (ts ss : Terms) (σ : ℕ → Term) → push (ts +++ ss) σ ≡ push ss (push ts σ)
 push-append ε ss σ = refl
 push-append (t ▸ ts) ss σ = push-append ts ss (cons t σ)
 
@@ -218,6 +218,13 @@ params-seen ts = erased-params (terms ts) ∙ code-params ts
 pub if-ok : {A B : Type 0} (P Q : A → Type 0) (r : Result A B) → ((a : A) → P a → Q a) → IfOk r P → IfOk r Q
 if-ok P Q (Ok a) f h = f a h
 if-ok P Q (Err e) f h = tt
+
+pub raised-step : (vs ws : List code.Term) (x y : code.Term) (ts : List code.Term) (by k : ℕ) → k < length ts → x ≡ get_or ts k x → ws ≡ vs ++ y ∷ [] →
+    term y ≡ ren (raised 0 by) (term x) → terms vs ≡ map (ren (shift by)) (terms (take k ts)) → terms ws ≡ map (ren (shift by)) (terms (take (k + 1) ts))
+raised-step vs ws x y ts by k h i e s so =
+    terms-push vs ws y e ∙ ap₂ (λ us t. us ++ t ∷ []) so (s ∙ raised-zero by (term x))
+    ∙ sym (map-append (ren (shift by)) (terms (take k ts)) (term x ∷ []))
+    ∙ ap (map (ren (shift by))) (sym (ap terms (taken-more ts x k h i) ∙ map-append term (take k ts) (x ∷ [])))
 
 pub under-seen : (vs raised ws all : List code.Term) (by n k : ℕ) → by ≡ n → length vs ≤ k → terms raised ≡ map (ren (shift by)) (terms (take k vs)) →
     side_by_side (terms ws) ≡ above 0 n → all ≡ raised ++ ws → filled all ≡ lifts n (filled vs)

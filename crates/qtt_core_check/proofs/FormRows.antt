@@ -96,9 +96,9 @@ need-missing : (E : Env) (f : GlobalId) (c k m : ℕ) → slice_get (fam_at E f)
 unfolding need
 need-missing E f c k m e = rw e refl
 
-pub con-refused : {E : Env} {n : ℕ} (p : Part) (Γ : Ctx) (f : GlobalId) (c k : ℕ) (ts : Terms) (e : CoreRefusal) → Refuses E n (con_need E f c k (size ts)) e →
+pub con-refused : (E : Env) (n : ℕ) (p : Part) (Γ : Ctx) (f : GlobalId) (c k : ℕ) (ts : Terms) (e : CoreRefusal) → Refuses E n (con_need E f c k (size ts)) e →
     Refuses E n (infer E p Γ (node (Form.con f c k) ts)) e
-con-refused {E} {n} p Γ f c k ts e h = by_place (slice_get (fam_at E f).constructors c) refl
+con-refused E n p Γ f c k ts e h = by_place (slice_get (fam_at E f).constructors c) refl
   where
     by_place : (o : Option ConSig) → slice_get (fam_at E f).constructors c ≡ o → Refuses E n (infer E p Γ (node (Form.con f c k) ts)) e
     by_place None i =
@@ -169,9 +169,9 @@ case-begins E p Γ q f ps m P s bs =
     (and-true (eqb (length ps) (length (fam_at E f).params)) (eqb m (length (fam_at E f).motive)) (same_counts (map (λ b. b.0) bs) (field_counts (fam_at E f).constructors)) _
     (eq-eqb _ _ (size-case ps P s bs)))
 
-pub case-refused : {E : Env} {n : ℕ} (p : Part) (Γ : Ctx) (q : Mult) (f : GlobalId) (ps : List Term) (m : ℕ) (P s : Term) (bs : List (ℕ × Term)) (e : CoreRefusal) →
+pub case-refused : (E : Env) (n : ℕ) (p : Part) (Γ : Ctx) (q : Mult) (f : GlobalId) (ps : List Term) (m : ℕ) (P s : Term) (bs : List (ℕ × Term)) (e : CoreRefusal) →
     Refuses E n (case_need E p q f (length ps) m (map (λ b. b.0) bs)) e → Refuses E n (infer E p Γ (case_term q f ps m P bs s)) e
-case-refused {E} {n} p Γ q f ps m P s bs e h = subst (λ m. Refuses E n m e) (sym (case-begins E p Γ q f ps m P s bs)) (here E n _ _ e h)
+case-refused E n p Γ q f ps m P s bs e h = subst (λ m. Refuses E n m e) (sym (case-begins E p Γ q f ps m P s bs)) (here E n _ _ e h)
 
 -- what is asked behind the parameters: the motive, the branches, the scrutinee
 abbrev pub motive_asks : Env → Part → Ctx → CaseOf → (ℕ → Term) → Term → Asks ℕ

@@ -25,3 +25,4 @@ pub mod FormRows
 pub mod BranchLists
 pub mod Families
 pub mod Matches
+pub mod ArgumentRows

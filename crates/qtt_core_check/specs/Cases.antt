@@ -1,5 +1,5 @@
 -- The rule of matches by its parts: one branch, the branches in order, the scrutinee.
-use Rattle.std.specs.Prelude.{ℕ, Bool, ◌&&◌, eqb, List, [], ◌∷◌, map, length, drop, Option, Some, None}
+use Rattle.std.specs.Prelude.{ℕ, Bool, true, ◌&&◌, ◌||◌, eqb, List, [], ◌∷◌, map, length, drop, Option, Some, None}
 use Rattle.qtt_usage.specs.declared.mult.Mult.{Mult}
 use Rattle.qtt_usage.specs.Usage.{usage_sum, usage_scale}
 use Rattle.qtt_term.specs.declared.rule.Rule.TheVariants as rule
@@ -11,7 +11,7 @@ use Rattle.qtt_term.specs.Judgement.{Ctx, Part, ext, sub_binds, scale, branch_ty
 use Rattle.qtt_term.specs.Ask.{Ask, ◌>>=◌}
 use Rattle.qtt_term.specs.Items.{family}
 use Rattle.qtt_term.specs.View.{term}
-use Rattle.qtt_term.specs.Infer.{at, Asks, Inferred, inferred, agree, family_of, unbound, with_branch, joined_use, field_counts, family_wants, binders_fit, mults_onto, CaseOf, infer}
+use Rattle.qtt_term.specs.Infer.{at, Asks, Inferred, inferred, agree, family_of, unbound, is_dead, with_branch, joined_use, field_counts, family_wants, binders_fit, mults_onto, CaseOf, infer}
 use Rattle.qtt_core_check.specs.declared.matching.Matching.{Matching}
 use Rattle.qtt_core_check.specs.Filled.{filled}
 
@@ -33,6 +33,11 @@ shaped S k m ns = eqb k (length S.params) && (eqb m (length S.motive) && same_co
 -- whether the uses of the newest binders fit, and the uses of the others
 abbrev pub fit_newest : Tele → List Mult → Bool × List Mult
 fit_newest Θ us = (binders_fit (mults_onto [] Θ) us, drop (length Θ) us)
+
+-- what binders are used for fits, in the run part and where the component is not dead
+abbrev pub fits_within : Part → Term → Bool → Bool
+fits_within Part.erased b fit = true
+fits_within Part.run b fit = is_dead b || fit
 
 -- a branch: the uses of what is older than its fields
 abbrev pub branch_asks : Env → Part → Ctx → CaseOf → (ℕ → Term) → Term → ConSig → Term → Asks (List Mult)

@@ -1,5 +1,4 @@
 //! The core judgement of terms.
-#![tactic(none)]
 
 ghost use Rattle.std.specs.Prelude.{◌≡◌, ◌<◌, ◌++◌, None, Some, IfOk, OnOk, map, length, slice_get};
 ghost use Rattle.qtt_term.specs.Signature.{ConSig};

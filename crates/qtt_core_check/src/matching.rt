@@ -1,7 +1,6 @@
 //! Premises and results of the rule of matches.
-#![tactic(none)]
 
-ghost use Rattle.std.specs.Prelude.{◌≡◌, ◌+◌, ◌<◌, ◌≤◌, ◌&&◌, Some, IfOk, MatchResult, map, length, slice_get};
+ghost use Rattle.std.specs.Prelude.{◌≡◌, ◌+◌, ◌<◌, ◌≤◌, ◌&&◌, Some, IfOk, MatchResult, map, length, slice_get, eqb};
 ghost use Rattle.qtt_term.specs.Signature.{ConSig, fam_sig, fam_at};
 ghost use Rattle.qtt_term.specs.Judgement.{branch_type as type_of_branch};
 ghost use Rattle.qtt_usage.specs.Usage.{usage_sum, usage_scale};
@@ -9,13 +8,13 @@ ghost use Rattle.qtt_term.specs.Term.{var, ε, ◌▸◌, ◌+++◌};
 ghost use Rattle.qtt_term.specs.Substitution.{sub, push};
 ghost use Rattle.qtt_term.specs.Question.{same_counts};
 ghost use Rattle.qtt_term.specs.Items.{family as family_of};
-ghost use Rattle.qtt_term.specs.View.{term, terms, branches as branches_of, side_by_side};
+ghost use Rattle.qtt_term.specs.View.{term, terms, branch as branch_of, branches as branches_of, side_by_side};
 ghost use Rattle.qtt_term.specs.Globals.{env};
 ghost use Rattle.qtt_term.specs.Contexts.{part};
 ghost use Rattle.qtt_term.specs.Infer.{at, need, is_there, usable, unbound, with_branch, joined_use};
 ghost use Rattle.qtt_core_check.specs.Filled.{tele, filled};
 ghost use Rattle.qtt_core_check.specs.Seen.{ctx, Gives, judged};
-ghost use Rattle.qtt_core_check.specs.Cases.{case_of, motive_of, params_of, shaped, scrutinee_asks, fit_newest};
+ghost use Rattle.qtt_core_check.specs.Cases.{case_of, motive_of, params_of, shaped, scrutinee_asks, fit_newest, fits_within};
 ghost use Rattle.qtt_core_check.specs.declared.refusal.CoreRefusal.TheVariants.{Memory};
 
 use crate::filling::fill;
@@ -49,11 +48,39 @@ fn same_counts(branches: &[Branch], constructors: &[Constructor]) -> bool
         return false;
     }
     for (place, branch) in branches.iter().enumerate() {
-        if branch.fields as usize != constructors[place].fields.len() {
+        if fields(branch) != constructors[place].fields.len() {
             return false;
         }
     }
     true
+}
+
+/// How many fields a branch stands under.
+fn fields(branch: &Branch) -> usize
+    ensures { result ≡ (branch_of branch.now).0 }
+{
+    branch.fields as usize
+}
+
+/// The numbers of parameters, indices and branches with fields are the family's.
+fn shaped(family: &Family, params: usize, indices: u32, branches: &[Branch]) -> bool
+    ensures { result ≡ (eqb params (length family.now.params.items) && (eqb indices (length family.now.indices.items) && same_counts (map (λ b. b.0) (branches_of branches.now)) (map (λ c. length c.fields.items) family.now.constructors.items))) }
+{
+    let counted = both(
+        indices as usize == family.indices.len(),
+        same_counts(branches, &family.constructors),
+    );
+    both(params == family.params.len(), counted)
+}
+
+/// What the binders of a component are used for fits, in the run part and where the component is not dead.
+fn fits_within(sigma: Sigma, body: &Term, fit: bool) -> bool
+    ensures { result ≡ fits_within (part sigma) (term body.now) fit }
+{
+    match sigma {
+        Sigma::Erased => true,
+        Sigma::Run => is_dead(body) || fit,
+    }
 }
 
 fn both(one: bool, other: bool) -> bool
@@ -114,11 +141,10 @@ impl<'a, C: Converter> Checker<'a, C> {
         let Some(family) = self.globals.family(id) else {
             return Err(CoreRefusal::Fails(Rule::Case, 1));
         };
-        if !usable(sigma, mult)
-            || params != family.params.len()
-            || indices as usize != family.indices.len()
-            || !same_counts(branches, &family.constructors)
-        {
+        if !usable(sigma, mult) {
+            return Err(CoreRefusal::Fails(Rule::Case, 1));
+        }
+        if !shaped(family, params, indices, branches) {
             return Err(CoreRefusal::Fails(Rule::Case, 1));
         }
         Ok(family)
@@ -161,10 +187,10 @@ impl<'a, C: Converter> Checker<'a, C> {
         ensures len { IfOk result (λ u. length u + length binders.now ≡ length uses) }
     {
         let (fit, uses) = fit_binders(binders, uses);
-        match sigma {
-            Sigma::Run if !is_dead(body) && !fit => Err(CoreRefusal::Fails(Rule::Case, 5)),
-            _ => Ok(uses),
+        if !fits_within(sigma, body, fit) {
+            return Err(CoreRefusal::Fails(Rule::Case, 5));
         }
+        Ok(uses)
     }
 
     /// The family of a match at its parameters and these indices.

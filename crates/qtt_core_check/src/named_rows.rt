@@ -1,5 +1,4 @@
 //! The rules of forms with arguments: their signatures, and their results.
-#![tactic(none)]
 
 ghost use Rattle.std.specs.Prelude.{◌≡◌, ◌+◌, ◌&&◌, ◌++◌, Some, IfOk, MatchResult, map, length, eqb};
 ghost use Rattle.qtt_usage.specs.Mult.{𝟘};

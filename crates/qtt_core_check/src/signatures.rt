@@ -1,5 +1,4 @@
 //! The signatures of primitives and actions.
-#![tactic(none)]
 
 ghost use Rattle.std.specs.Prelude.{◌≡◌, IfOk};
 ghost use Rattle.qtt_term.specs.Signature.{prim_signature, act_signature, prim_id as id_of, mult_of, IoTy};
