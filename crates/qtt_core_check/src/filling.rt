@@ -12,5 +12,5 @@ use std::alloc::Global;
 pub(crate) fn fill(alloc: Global, t: &Term, values: &[Term]) -> Result<Term, TermError>
     ensures { IfOk result (λ s. term s ≡ sub (filled values.now) (term t.now)) }
 {
-    t.subst(alloc, values)
+    t.fill(alloc, values)
 }
