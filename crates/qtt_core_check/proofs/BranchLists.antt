@@ -69,7 +69,7 @@ module _ {E : Env} {n : ℕ} (p : Part) (Γ : Ctx) (c : CaseOf) (σ : ℕ → Te
 
   pub branch-refused : (k : ℕ) (J : Option (List Mult)) (d : ConSig) (b : Term) (e : CoreRefusal) → slice_get ds k ≡ Some d → slice_get bs k ≡ Some b →
       Joining E n p Γ c σ P ds bs k J → Refuses E n (branch_asks E p Γ c σ P d b) e → Refuses E n (branches_ask E p Γ c σ P ds bs None) e
-  branch-refused k J d b e i j s r = same-refusal E n (s.same ∙ ap (within E n) (left-asks E p Γ c σ P ds bs k J d b i j)) e (here E n _ _ e r)
+  branch-refused k J d b e i j s r = same-refusal E n _ _ (s.same ∙ ap (within E n) (left-asks E p Γ c σ P ds bs k J d b i j)) e (here E n _ _ e r)
 
   pub all-joined : (k : ℕ) (J : Option (List Mult)) → length ds ≤ k → Joining E n p Γ c σ P ds bs k J → Reaches E n (branches_ask E p Γ c σ P ds bs None) J
   all-joined k J h s =

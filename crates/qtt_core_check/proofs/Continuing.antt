@@ -24,8 +24,8 @@ bind-done a k = refl
 pub bind-along : {F P A B : Type 0} (m : Ask F P A) (k l : A → Ask F P B) → ((a : A) → k a ≡ l a) → m >>= k ≡ m >>= l
 bind-along m k l same = ap (λ k. m >>= k) (fun_ext same)
 
-ok-injective : {F P A : Type 0} (a b : A) → Ending.ok {F = F} {P = P} a ≡ Ending.ok b → a ≡ b
-ok-injective a b e = cc
+ok-injective : {F P A : Type 0} (a b : A) → ◌≡◌ {A = Ending F P A} (Ending.ok a) (Ending.ok b) → a ≡ b
+ok-injective a b e = cc e
 
 -- the answer in the middle
 pub record Middle (E : Env) (n : ℕ) {A B : Type 0} (m : Asks A) (k : A → Asks B) (b : B) : Type 0 where
@@ -38,10 +38,10 @@ pub record Passes (E : Env) (n : ℕ) {A B : Type 0} (m : Asks A) (m' : Asks B) 
   pub fails : (f : Premise) → within E n m ≡ Ending.fails f → within E n m' ≡ Ending.fails f
   pub spent : (p : Unit {0}) (q : Question) → within E n m ≡ Ending.spent p q → within E n m' ≡ Ending.spent p q
 
-pub same-refusal : (E : Env) (n : ℕ) {A : Type 0} {m m' : Asks A} → within E n m ≡ within E n m' → (e : CoreRefusal) → Refuses E n m' e → Refuses E n m e
-same-refusal E n h (refusal.Fails r k) d = record { is = h ∙ d.is }
-same-refusal E n h (refusal.Spent q) d = record { is = h ∙ d.is }
-same-refusal E n h refusal.Memory d = tt
+pub same-refusal : (E : Env) (n : ℕ) {A : Type 0} (m m' : Asks A) → within E n m ≡ within E n m' → (e : CoreRefusal) → Refuses E n m' e → Refuses E n m e
+same-refusal E n m m' h (refusal.Fails r k) d = record { is = h ∙ d.is }
+same-refusal E n m m' h (refusal.Spent q) d = record { is = h ∙ d.is }
+same-refusal E n m m' h refusal.Memory d = tt
 
 module _ {E : Env} {n : ℕ} where
   pub one-answer : {A : Type 0} {m : Asks A} {a b : A} → Reaches E n m a → Reaches E n m b → a ≡ b
@@ -79,8 +79,8 @@ module _ {E : Env} {n : ℕ} where
     spent = λ p q d. within-then E n m k ∙ ap (λ x. onward x (λ a. within E n (k a))) d;
   }
 
-  pub passes-then : {A B C : Type 0} {m : Asks C} {m' : Asks A} {k : A → Asks B} → Passes E n m m' → Passes E n m (m' >>= k)
-  passes-then {m' = m'} {k = k} s = record {
+  pub passes-then : {A B C : Type 0} {m : Asks C} {m' : Asks A} (k : A → Asks B) → Passes E n m m' → Passes E n m (m' >>= k)
+  passes-then {m' = m'} k s = record {
     fails = λ f d. (passes-first m' k).fails f (s.fails f d);
     spent = λ p q d. (passes-first m' k).spent p q (s.spent p q d);
   }
