@@ -138,9 +138,6 @@ judge-returns-in-Lit-clause-gives g t c = ?
 pub judge-returns-in-IntTy-clause-gives : goal.judge-returns-in-IntTy-clause-gives
 judge-returns-in-IntTy-clause-gives g t c = ?
 
-pub judge-returns-in-Def-clause-gives : goal.judge-returns-in-Def-clause-gives
-judge-returns-in-Def-clause-gives g t c = ?
-
 pub has-returns-in_err-found-clause-gives : goal.has-returns-in_err-found-clause-gives
 has-returns-in_err-found-clause-gives g t c =
     passed _ _ _ _ c.from_residual.result c.in_err-found.field-0.0 c.from_residual.ensures.1 (here _ _ _ _ _ c.in_err-found.ensures.gives)
@@ -185,9 +182,6 @@ pub arguments-returns-clause-len : goal.arguments-returns-clause-len
 arguments-returns-clause-len g t c =
     c.loop-place.invariant.0.counted
 
-pub arguments-add-requires : goal.arguments-add-requires
-arguments-add-requires g t c = ?
-
 pub case-returns-in_err-family-clause-gives : goal.case-returns-in_err-family-clause-gives
 case-returns-in_err-family-clause-gives g t c = ?
 
@@ -205,15 +199,6 @@ case-returns-in_err-found-clause-gives g t c = ?
 
 pub case-returns-clause-gives : goal.case-returns-clause-gives
 case-returns-clause-gives g t c = ?
-
-pub case-arguments-requires : goal.case-arguments-requires
-case-arguments-requires g t c = ?
-
-pub case-case_end-requires-clause-found : goal.case-case_end-requires-clause-found
-case-case_end-requires-clause-found g t c = ?
-
-pub case-case_end-requires-clause-joined : goal.case-case_end-requires-clause-joined
-case-case_end-requires-clause-joined g t c = ?
 
 pub branches-loop-place-init : goal.branches-loop-place-init
 branches-loop-place-init g t c =
@@ -235,9 +220,6 @@ pub branches-returns-clause-len : goal.branches-returns-clause-len
 branches-returns-clause-len g t c =
     c.loop-place.invariant.counted
 
-pub branches-branch-used-requires : goal.branches-branch-used-requires
-branches-branch-used-requires g t c = ?
-
 pub branch-returns-in_err-found-clause-gives : goal.branch-returns-in_err-found-clause-gives
 branch-returns-in_err-found-clause-gives g t c = ?
 
@@ -246,12 +228,6 @@ branch-returns-in_err-agree-clause-gives g t c = ?
 
 pub branch-returns-clause-gives : goal.branch-returns-clause-gives
 branch-returns-clause-gives g t c = ?
-
-pub branch-returns-clause-len : goal.branch-returns-clause-len
-branch-returns-clause-len g t c = ?
-
-pub branch-branch_end-requires : goal.branch-branch_end-requires
-branch-branch_end-requires g t c = ?
 
 pub delete-returns-then-not-usable-clause-gives : goal.delete-returns-then-not-usable-clause-gives
 delete-returns-then-not-usable-clause-gives g t c =
