@@ -26,3 +26,4 @@ pub mod BranchLists
 pub mod Families
 pub mod Matches
 pub mod ArgumentRows
+pub mod Places

@@ -19,7 +19,7 @@ ghost use Rattle.qtt_core_check.specs.declared.refusal.CoreRefusal.TheVariants.{
 
 use crate::filling::fill;
 use crate::judged::Judged;
-use crate::premises::{Checker, usable};
+use crate::premises::{Checker, sum, usable};
 use crate::refusal::CoreRefusal;
 use crate::rows::is_dead;
 use crate::scope::Scope;
@@ -236,7 +236,7 @@ impl<'a, C: Converter> Checker<'a, C> {
         ensures len { IfOk result (λ j. length j.uses ≡ length (ctx scope.now)) }
     {
         let count = matching.family.params.len();
-        let whole = components(matching.family)?;
+        let whole = sum(count, matching.family.indices.len())?;
         let args = self.family_args(scope, matching.id, whole, &found.ty, (Rule::Case, 6))?;
         let indices = copy_all(self.alloc, &args[count..])?;
         let wanted = self.scrutinee_type(matching, &indices)?;
@@ -245,16 +245,6 @@ impl<'a, C: Converter> Checker<'a, C> {
             ty: self.result_type(matching, indices, scrutinee)?,
             uses: match_uses(matching.mult, found.uses, joined),
         })
-    }
-}
-
-/// The number of a family's parameters and indices.
-fn components(family: &Family) -> Result<usize, CoreRefusal>
-    ensures { MatchResult result (λ n. n ≡ length family.now.params.items + length family.now.indices.items) (λ e. e ≡ Memory) }
-{
-    match family.params.len().checked_add(family.indices.len()) {
-        Some(count) => Ok(count),
-        None => Err(CoreRefusal::Memory),
     }
 }
 

@@ -19,7 +19,7 @@ ghost use Rattle.qtt_core_check.specs.declared.refusal.CoreRefusal.TheVariants.{
 
 use crate::filling::fill;
 use crate::judged::Judged;
-use crate::premises::{Checker, usable};
+use crate::premises::{Checker, sum, usable};
 use crate::refusal::CoreRefusal;
 use crate::scope::Scope;
 use crate::signatures::{Signature, action_signature, primitive_signature};
@@ -151,7 +151,10 @@ impl<'a, C: Converter> Checker<'a, C> {
         let Some(constructor) = family.constructors.get(con.place as usize) else {
             return Err(CoreRefusal::Fails(Rule::Con, 1));
         };
-        if params != family.params.len() || fields != constructor.fields.len() {
+        if params != family.params.len() {
+            return Err(CoreRefusal::Fails(Rule::Con, 1));
+        }
+        if fields != constructor.fields.len() {
             return Err(CoreRefusal::Fails(Rule::Con, 1));
         }
         Ok(Made {
@@ -189,8 +192,9 @@ impl<'a, C: Converter> Checker<'a, C> {
         ensures signature { IfOk result (λ s. signature s ≡ act_signature (action kind)) }
         ensures len { IfOk result (λ s. length s.arguments.items ≡ types + args) }
     {
+        let count = sum(types, args)?;
         let signature = action_signature(self.alloc, kind)?;
-        if types.checked_add(args) != Some(signature.arguments.len()) {
+        if signature.arguments.len() != count {
             return Err(CoreRefusal::Fails(Rule::Act, 1));
         }
         Ok(signature)
@@ -210,9 +214,9 @@ impl<'a, C: Converter> Checker<'a, C> {
         Ok(Term::Fam(id, vec![in self.alloc; ty, left, right]?))
     }
 
-    /// The motive of a deletion at the proof by reflexivity.
-    pub fn at_refl(&self, ty: &Term, point: &Term, motive: &Term) -> Result<Term, CoreRefusal>
-        ensures { MatchResult result (λ t. term t ≡ inst (term motive.now) (Refl (term ty.now) (term point.now))) (λ e. e ≡ Memory) }
+    /// The proof by reflexivity that a point equals itself.
+    fn reflexivity(&self, ty: &Term, point: &Term) -> Result<Term, CoreRefusal>
+        ensures { MatchResult result (λ t. term t ≡ Refl (term ty.now) (term point.now)) (λ e. e ≡ Memory) }
     {
         let con = ConId {
             family: GlobalId {
@@ -224,7 +228,14 @@ impl<'a, C: Converter> Checker<'a, C> {
         let ty = ty.copy(self.alloc)?;
         let point = point.copy(self.alloc)?;
         let params = vec![in self.alloc; ty, point]?;
-        let proof = [Term::Con(con, params, Vec::new(self.alloc))];
+        Ok(Term::Con(con, params, Vec::new(self.alloc)))
+    }
+
+    /// The motive of a deletion at the proof by reflexivity.
+    pub fn at_refl(&self, ty: &Term, point: &Term, motive: &Term) -> Result<Term, CoreRefusal>
+        ensures { MatchResult result (λ t. term t ≡ inst (term motive.now) (Refl (term ty.now) (term point.now))) (λ e. e ≡ Memory) }
+    {
+        let proof = [self.reflexivity(ty, point)?];
         Ok(motive.subst(self.alloc, &proof)?)
     }
 

@@ -1,6 +1,6 @@
 //! Premises of the rules.
 
-ghost use Rattle.std.specs.Prelude.{◌≡◌, ◌<◌, IfOk, length};
+ghost use Rattle.std.specs.Prelude.{◌≡◌, ◌+◌, ◌<◌, IfOk, MatchResult, length};
 ghost use Rattle.qtt_usage.specs.Mult.{same_mult};
 ghost use Rattle.qtt_term.specs.View.{term};
 ghost use Rattle.qtt_term.specs.Globals.{env};
@@ -10,6 +10,7 @@ ghost use Rattle.qtt_term.specs.Infer.{at, usable, use_at, agree, sort_of, funct
 ghost use Rattle.qtt_term.specs.Term.{same_id};
 ghost use Rattle.qtt_term.specs.View.{terms, side_by_side};
 ghost use Rattle.qtt_core_check.specs.Seen.{ctx, Gives, function};
+ghost use Rattle.qtt_core_check.specs.declared.refusal.CoreRefusal.TheVariants.{Memory};
 
 use crate::refusal::CoreRefusal;
 use crate::scope::Scope;
@@ -68,6 +69,16 @@ fn same_id(one: GlobalId, other: GlobalId) -> bool
     ensures { result ≡ same_id one other }
 {
     one.module.0 == other.module.0 && one.item == other.item
+}
+
+/// The sum of two numbers of components.
+pub fn sum(one: usize, other: usize) -> Result<usize, CoreRefusal>
+    ensures { MatchResult result (λ n. n ≡ one + other) (λ e. e ≡ Memory) }
+{
+    match one.checked_add(other) {
+        Some(count) => Ok(count),
+        None => Err(CoreRefusal::Memory),
+    }
 }
 
 /// One use of a variable in the run part, and none in the erased part.
