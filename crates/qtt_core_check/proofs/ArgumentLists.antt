@@ -82,7 +82,7 @@ module _ {E : Env} {n : ℕ} (p : Part) (Γ : Ctx) where
       let b = middle (arguments E p Γ xs (cons t σ) ts) _ a.after in
       passes-after _ _ a.first (passes-then _ (append-second xs ys (cons t σ) ts ss b.mid (cc z) b.first))
 
-  one-reaches : (x : Wanted) (σ : ℕ → Term) (t : Term) (us : List Mult) → length us ≡ length Γ → Reaches E n (has Γ (infer E (under p x.mult) Γ t) (sub σ x.type) x.premise) us →
+  pub one-reaches : (x : Wanted) (σ : ℕ → Term) (t : Term) (us : List Mult) → length us ≡ length Γ → Reaches E n (has Γ (infer E (under p x.mult) Γ t) (sub σ x.type) x.premise) us →
       Reaches E n (arguments E p Γ (x ∷ []) σ (t ▸ ε)) (usage_scale x.mult us)
   one-reaches x σ t us l r =
       reached (on _ r (on _ on_done on_done)) (sum-none (length Γ) (usage_scale x.mult us) (length-scaled x.mult us ∙ l))

@@ -28,10 +28,10 @@ use Rattle.qtt_core_check.proofs.Binders.{push-append}
 use Rattle.qtt_core_check.proofs.FormRows.{applies}
 
 -- the values for no binder, and for arguments
-none-filled : (vs : List code.Term) → vs ≡ [] → filled vs ≡ closed
+pub none-filled : (vs : List code.Term) → vs ≡ [] → filled vs ≡ closed
 none-filled vs e = ap filled e
 
-args-filled : (none vs ts : List code.Term) → none ≡ [] → terms vs ≡ terms none ++ terms ts → filled vs ≡ push (side_by_side (terms ts)) closed
+pub args-filled : (none vs ts : List code.Term) → none ≡ [] → terms vs ≡ terms none ++ terms ts → filled vs ≡ push (side_by_side (terms ts)) closed
 args-filled none vs ts e d = filled-more none vs ts d ∙ ap (push (side_by_side (terms ts))) (none-filled none e)
 
 sizes : (xs : List Wanted) (ts : List code.Term) → length ts ≡ length xs → size (side_by_side (terms ts)) ≡ length xs

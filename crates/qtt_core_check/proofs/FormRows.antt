@@ -47,7 +47,7 @@ fam-asks E p Γ f ts =
 abbrev pub named_need : Env → Named → ℕ → Asks (Unit {0})
 named_need E n k = need (eqb k (length (signature E n).arguments)) (at (rule_of n) 1)
 
-many-usable : (p : Part) → usable p ω ≡ true
+pub many-usable : (p : Part) → usable p ω ≡ true
 many-usable Part.run = refl
 many-usable Part.erased = refl
 

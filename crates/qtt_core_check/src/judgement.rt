@@ -94,7 +94,9 @@ impl<'a, C: Converter> Checker<'a, C> {
             Term::Delete(delete) => self.delete(scope, sigma, delete),
             Term::Def(id) => self.def_row(scope, sigma, *id),
             Term::Lit(lit) => self.lit_row(scope, lit),
-            Term::IntTy | Term::StringTy | Term::HandleTy => self.plain_row(scope, Term::Sort(0)),
+            Term::IntTy => self.plain_row(scope, Term::Sort(0)),
+            Term::StringTy => self.plain_row(scope, Term::Sort(0)),
+            Term::HandleTy => self.plain_row(scope, Term::Sort(0)),
             Term::IoTy(_, of) => {
                 let used =
                     self.has(scope, Sigma::Erased, of, &Term::Sort(0), Rule::PrimTy, 1)?;

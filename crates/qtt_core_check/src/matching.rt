@@ -238,7 +238,8 @@ impl<'a, C: Converter> Checker<'a, C> {
         let count = matching.family.params.len();
         let whole = sum(count, matching.family.indices.len())?;
         let args = self.family_args(scope, matching.id, whole, &found.ty, (Rule::Case, 6))?;
-        let indices = copy_all(self.alloc, &args[count..])?;
+        let (_, indices) = args.split_at(count);
+        let indices = copy_all(self.alloc, indices)?;
         let wanted = self.scrutinee_type(matching, &indices)?;
         self.agree(scope, &found.ty, &wanted, Rule::Case, 6)?;
         Ok(Judged {

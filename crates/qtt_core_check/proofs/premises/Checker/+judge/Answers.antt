@@ -1,27 +1,38 @@
-use Rattle.std.proofs.Common.{◌≡◌, ◌+◌, ◌<◌, ◌++◌, ◌∙◌, [], ◌∷◌, length, map, take, sym, ap, rules, arith}
-use Rattle.std.proofs.lemmas.List.{length-map, take_all, append-nil}
+use Rattle.std.proofs.Common.{◌≡◌, ◌+◌, ◌<◌, ◌++◌, ◌∙◌, [], ◌∷◌, length, map, take, get_or, refl, sym, ap, subst, rules, arith}
+use Rattle.std.proofs.lemmas.List.{length-map, take_all, append-nil, take-append-drop}
 use Rattle.qtt_usage.specs.Usage.{no_usage, usage_sum, usage_scale}
 use Rattle.qtt_term.specs.declared.term.Term.{the_lemmas}
 use Rattle.qtt_term.specs.declared.term.Delete.{out-Delete}
-use Rattle.qtt_term.specs.Term.{Pi, Lam, App, Fam, Delete, Trap}
+use Rattle.qtt_term.specs.Term.{Named, Form, node, ε, Sort, Pi, Lam, App, Fam, Delete, Call, Trap}
 use Rattle.qtt_term.specs.Substitution.{sub}
 use Rattle.qtt_term.specs.Contexts.{part}
 use Rattle.qtt_term.specs.Globals.{env}
 use Rattle.qtt_term.specs.Items.{family, constructor}
-use Rattle.qtt_term.specs.View.{term, terms, delete, branch, branches, side_by_side}
-use Rattle.qtt_term.specs.Infer.{at, inferred}
-use Rattle.qtt_core_check.specs.Filled.{filled}
+use Rattle.qtt_term.specs.View.{action, io, term, terms, case, delete, branch, branches, side_by_side}
+use Rattle.qtt_term.specs.Infer.{at, inferred, infer}
+use Rattle.qtt_core_check.specs.Filled.{tele, filled}
 use Rattle.qtt_core_check.specs.Cases.{case_of, params_of, motive_of}
-use Rattle.qtt_core_check.specs.Seen.{ctx, judged}
+use Rattle.qtt_core_check.specs.Seen.{ctx, judged, Reaches}
 use Rattle.qtt_core_check.proofs.Binders.{if-ok}
 use Rattle.qtt_core_check.proofs.Within.{on, on_done, fails_here, fails_later, holds, unmet, here, later, passed, reached, tail}
 use Rattle.qtt_core_check.proofs.Continuing.{finished}
 use Rattle.qtt_core_check.proofs.ArgumentLists.{filled-more, args-none, args-step, args-stop, args-all, values-step}
 use Rattle.qtt_core_check.proofs.BranchLists.{entry-at, length-sigs, bodies-at, none-joined, branch-joined, branch-refused, all-joined}
-use Rattle.qtt_core_check.proofs.ArgumentRows.{applied-refused}
-use Rattle.qtt_core_check.proofs.FormRows.{fam-asks, case-asks}
+use Rattle.qtt_core_check.proofs.ArgumentRows.{args-filled}
+use Rattle.qtt_core_check.proofs.FormRows.{fam_need, named_need, con_need, fam-asks, named-asks, prim-many, case_term}
 use Rattle.qtt_core_check.proofs.Views.{sort-seen}
 use Rattle.qtt_core_check.proofs.premises.Checker.+judge.Goals as goal
+use mathlib.Core.Path.{ap₂}
+use Rattle.qtt_usage.specs.Mult.{𝟘}
+use Rattle.qtt_term.specs.declared.rule.Rule.TheVariants as rule
+use Rattle.qtt_term.specs.declared.term.Case.{out-Case}
+use Rattle.qtt_term.specs.Signature.{fam_at, fam_sig, prim_signature, IntTy, StringTy, HandleTy, IoTy}
+use Rattle.qtt_term.specs.Judgement.{erase_binds, sub_binds, scale}
+use Rattle.qtt_core_check.specs.Signatures.{signature}
+use Rattle.qtt_core_check.proofs.Families.{found-family}
+use Rattle.qtt_core_check.proofs.Places.{length-params, sig-at}
+use Rattle.qtt_core_check.proofs.Applied.{given-as, one-uncounted, one-refused, one-is, two-refused-first, two-refused-second, two-are, con_parts, con-uncounted-parts, con-lists, act_parts, act_need, act-uncounted, act-lists, lit-is, int-is, string-is, handle-is, io-refused, io-is}
+use Rattle.qtt_core_check.proofs.CaseRows.{case-unshaped, case-params-refused, case-motive-refused, case-branches-refused, case-scrutinee-refused, case-ends, branch-is-refused, branch-differs, branch-ends}
 
 pub judge-returns-in_err-first-in-Pi-clause-gives : goal.judge-returns-in_err-first-in-Pi-clause-gives
 judge-returns-in_err-first-in-Pi-clause-gives g t c =
@@ -77,52 +88,415 @@ judge-returns-in_ok-used-in-App-clause-gives g t c =
 
 pub judge-returns-in_err-signature-in-Fam-clause-gives : goal.judge-returns-in_err-signature-in-Fam-clause-gives
 judge-returns-in_err-signature-in-Fam-clause-gives g t c =
-    let ts = c.in-Fam.args.items in let form : term c.args.t.now ≡ Fam c.in-Fam.id (side_by_side (terms ts)) = search (rules, the_lemmas) in let n : c.len.result ≡ length (terms ts) = search rules in rw (form, fam-asks (env c.args.self.now.globals.now) (part c.args.sigma) (ctx c.args.scope.now) c.in-Fam.id (terms ts)) (passed _ _ _ _ c.from_residual-in_err-signature-in-Fam.result c.in_err-signature-in-Fam.field-0.0 c.from_residual-in_err-signature-in-Fam.ensures.1 (here _ _ _ _ _ (rw n at c.in_err-signature-in-Fam.ensures.gives)))
+    let E = env c.args.self.now.globals.now in
+    let N = c.args.self.now.budget in
+    let p = part c.args.sigma in
+    let Γ = ctx c.args.scope.now in
+    let f = c.in-Fam.id in
+    let ts = c.in-Fam.args.items in
+    let form : term c.args.t.now ≡ Fam f (side_by_side (terms ts)) = search (rules, the_lemmas) in
+    let asks = ap (infer E p Γ) form ∙ fam-asks E p Γ f (terms ts) in
+    let Θ = erase_binds ((fam_at E f).params ++ (fam_at E f).indices) in
+    let A = Sort (fam_at E f).level in
+    let k = c.len.result in
+    let l : k ≡ length ts = search rules in
+    let e = c.in_err-signature-in-Fam.field-0.0 in
+    given-as E N _ _ judged c.from_residual-in_err-signature-in-Fam.result asks
+    (passed E N _ judged c.from_residual-in_err-signature-in-Fam.result e c.from_residual-in_err-signature-in-Fam.ensures.1
+    (one-uncounted E N p Γ (fam_need E f) (at rule.Fam 1) Θ A ts k l e c.in_err-signature-in-Fam.ensures.gives))
 
 pub judge-returns-in_err-used-in-Fam-clause-gives : goal.judge-returns-in_err-used-in-Fam-clause-gives
-judge-returns-in_err-used-in-Fam-clause-gives g t c = ?
+judge-returns-in_err-used-in-Fam-clause-gives g t c =
+    let E = env c.args.self.now.globals.now in
+    let N = c.args.self.now.budget in
+    let p = part c.args.sigma in
+    let Γ = ctx c.args.scope.now in
+    let f = c.in-Fam.id in
+    let ts = c.in-Fam.args.items in
+    let form : term c.args.t.now ≡ Fam f (side_by_side (terms ts)) = search (rules, the_lemmas) in
+    let asks = ap (infer E p Γ) form ∙ fam-asks E p Γ f (terms ts) in
+    let Θ = erase_binds ((fam_at E f).params ++ (fam_at E f).indices) in
+    let A = Sort (fam_at E f).level in
+    let k = c.len.result in
+    let l : k ≡ length ts = search rules in
+    let bs = c.in_ok-signature-in-Fam.signature.arguments.items in
+    let none = c.new-values.result.items in
+    let d : none ≡ [] = search rules in
+    let b = c.deref-in-Fam.ensures.value in
+    let a = c.deref-in-Fam-2.ensures.value in
+    let e = c.in_err-used-in-Fam.field-0.0 in
+    given-as E N _ _ judged c.from_residual-in_err-used-in-Fam.result asks
+    (passed E N _ judged c.from_residual-in_err-used-in-Fam.result e c.from_residual-in_err-used-in-Fam.ensures.1
+    (one-refused E N p Γ (fam_need E f) (at rule.Fam 1) Θ A ts k l bs none c.in_ok-signature-in-Fam.ensures.arguments d c.in_ok-signature-in-Fam.ensures.gives e
+    (rw (b, a) at c.in_err-used-in-Fam.ensures.gives)))
 
 pub judge-returns-in_ok-used-in-Fam-clause-gives : goal.judge-returns-in_ok-used-in-Fam-clause-gives
-judge-returns-in_ok-used-in-Fam-clause-gives g t c = ?
+judge-returns-in_ok-used-in-Fam-clause-gives g t c =
+    let E = env c.args.self.now.globals.now in
+    let N = c.args.self.now.budget in
+    let p = part c.args.sigma in
+    let Γ = ctx c.args.scope.now in
+    let f = c.in-Fam.id in
+    let ts = c.in-Fam.args.items in
+    let form : term c.args.t.now ≡ Fam f (side_by_side (terms ts)) = search (rules, the_lemmas) in
+    let asks = ap (infer E p Γ) form ∙ fam-asks E p Γ f (terms ts) in
+    let Θ = erase_binds ((fam_at E f).params ++ (fam_at E f).indices) in
+    let A = Sort (fam_at E f).level in
+    let k = c.len.result in
+    let l : k ≡ length ts = search rules in
+    let bs = c.in_ok-signature-in-Fam.signature.arguments.items in
+    let none = c.new-values.result.items in
+    let d : none ≡ [] = search rules in
+    let b = c.deref-in-Fam.ensures.value in
+    let a = c.deref-in-Fam-2.ensures.value in
+    let vs = c.arguments.new.values.items in
+    let w = c.deref-in-Fam-3.ensures.value in
+    given-as E N _ _ judged c.applied.result asks
+    (finished _ judged c.applied.result
+    (one-is E N p Γ (fam_need E f) (at rule.Fam 1) Θ A ts k l bs none c.in_ok-signature-in-Fam.ensures.arguments d c.in_ok-signature-in-Fam.ensures.gives
+    vs c.in_ok-signature-in-Fam.signature.ty c.in_ok-used-in-Fam.used (rw a at c.in_ok-used-in-Fam.ensures.values) c.in_ok-signature-in-Fam.ensures.ty
+    (rw (b, a) at c.in_ok-used-in-Fam.ensures.gives))
+    (rw w at c.applied.ensures.gives))
 
 pub judge-returns-in_err-made-in-Con-clause-gives : goal.judge-returns-in_err-made-in-Con-clause-gives
-judge-returns-in_err-made-in-Con-clause-gives g t c = ?
+judge-returns-in_err-made-in-Con-clause-gives g t c =
+    let E = env c.args.self.now.globals.now in
+    let N = c.args.self.now.budget in
+    let p = part c.args.sigma in
+    let Γ = ctx c.args.scope.now in
+    let f = c.in-Con.con.family in
+    let i = c.in-Con.con.place in
+    let ts = c.in-Con.params.items in
+    let ss = c.in-Con.fields.items in
+    let form : term c.args.t.now ≡ con_parts f i ts ss = search (rules, the_lemmas) in
+    let k = c.len-in-Con.result in
+    let m = c.len-in-Con-2.result in
+    let l : k ≡ length ts = search rules in
+    let o : m ≡ length ss = search rules in
+    let e = c.in_err-made-in-Con.field-0.0 in
+    given-as E N _ _ judged c.from_residual-in_err-made-in-Con.result (ap (infer E p Γ) form)
+    (passed E N _ judged c.from_residual-in_err-made-in-Con.result e c.from_residual-in_err-made-in-Con.ensures.1
+    (con-uncounted-parts E N p Γ f i ts ss k m l o e c.in_err-made-in-Con.ensures.gives))
 
 pub judge-returns-in_err-used-in-Con-clause-gives : goal.judge-returns-in_err-used-in-Con-clause-gives
-judge-returns-in_err-used-in-Con-clause-gives g t c = ?
+judge-returns-in_err-used-in-Con-clause-gives g t c =
+    let E = env c.args.self.now.globals.now in
+    let N = c.args.self.now.budget in
+    let p = part c.args.sigma in
+    let Γ = ctx c.args.scope.now in
+    let f = c.in-Con.con.family in
+    let i = c.in-Con.con.place in
+    let ts = c.in-Con.params.items in
+    let ss = c.in-Con.fields.items in
+    let form : term c.args.t.now ≡ con_parts f i ts ss = search (rules, the_lemmas) in
+    let k = c.len-in-Con.result in
+    let m = c.len-in-Con-2.result in
+    let l : k ≡ length ts = search rules in
+    let o : m ≡ length ss = search rules in
+    let M = c.in_ok-made-in-Con.made in
+    let bs = M.params.items in
+    let cs = M.fields.items in
+    let none = c.new-values-in-Con.result.items in
+    let d : none ≡ [] = search rules in
+    let asks = ap (infer E p Γ) form ∙ con-lists E p Γ f i ts ss k m l o M c.in_ok-made-in-Con.ensures.made bs cs refl refl in
+    let z : length bs ≡ length ts = c.in_ok-made-in-Con.ensures.params ∙ l in
+    let b = c.deref-in-Con.ensures.value in
+    let a = c.deref-in-Con-2.ensures.value in
+    let e = c.in_err-used-in-Con.field-0.0 in
+    given-as E N _ _ judged c.from_residual-in_err-used-in-Con.result asks
+    (passed E N _ judged c.from_residual-in_err-used-in-Con.result e c.from_residual-in_err-used-in-Con.ensures.1
+    (two-refused-first E N p Γ (con_need E f i k (k + m)) (at rule.Con 1) (at rule.Con 2) bs cs (term M.ty) ts ss none d z c.in_ok-made-in-Con.ensures.gives e (rw (b, a) at c.in_err-used-in-Con.ensures.gives)))
 
 pub judge-returns-in_err-more-in-Con-clause-gives : goal.judge-returns-in_err-more-in-Con-clause-gives
-judge-returns-in_err-more-in-Con-clause-gives g t c = ?
+judge-returns-in_err-more-in-Con-clause-gives g t c =
+    let E = env c.args.self.now.globals.now in
+    let N = c.args.self.now.budget in
+    let p = part c.args.sigma in
+    let Γ = ctx c.args.scope.now in
+    let f = c.in-Con.con.family in
+    let i = c.in-Con.con.place in
+    let ts = c.in-Con.params.items in
+    let ss = c.in-Con.fields.items in
+    let form : term c.args.t.now ≡ con_parts f i ts ss = search (rules, the_lemmas) in
+    let k = c.len-in-Con.result in
+    let m = c.len-in-Con-2.result in
+    let l : k ≡ length ts = search rules in
+    let o : m ≡ length ss = search rules in
+    let M = c.in_ok-made-in-Con.made in
+    let bs = M.params.items in
+    let cs = M.fields.items in
+    let none = c.new-values-in-Con.result.items in
+    let d : none ≡ [] = search rules in
+    let asks = ap (infer E p Γ) form ∙ con-lists E p Γ f i ts ss k m l o M c.in_ok-made-in-Con.ensures.made bs cs refl refl in
+    let z : length bs ≡ length ts = c.in_ok-made-in-Con.ensures.params ∙ l in
+    let b = c.deref-in-Con.ensures.value in
+    let a = c.deref-in-Con-2.ensures.value in
+    let vs = c.arguments-in-Con.new.values.items in
+    let v = rw a at c.in_ok-used-in-Con.ensures.values in
+    let b2 = c.deref-in-Con-3.ensures.value in
+    let a2 = c.deref-in-Con-4.ensures.value in
+    let h = rw (b, a) at c.in_ok-used-in-Con.ensures.gives in
+    let e = c.in_err-more-in-Con.field-0.0 in
+    given-as E N _ _ judged c.from_residual-in_err-more-in-Con.result asks
+    (passed E N _ judged c.from_residual-in_err-more-in-Con.result e c.from_residual-in_err-more-in-Con.ensures.1
+    (two-refused-second E N p Γ (con_need E f i k (k + m)) (at rule.Con 1) (at rule.Con 2) bs cs (term M.ty) ts ss none d z c.in_ok-made-in-Con.ensures.gives vs c.in_ok-used-in-Con.used v h e (rw (b2, a2) at c.in_err-more-in-Con.ensures.gives)))
 
 pub judge-returns-in_ok-more-in-Con-clause-gives : goal.judge-returns-in_ok-more-in-Con-clause-gives
-judge-returns-in_ok-more-in-Con-clause-gives g t c = ?
+judge-returns-in_ok-more-in-Con-clause-gives g t c =
+    let E = env c.args.self.now.globals.now in
+    let N = c.args.self.now.budget in
+    let p = part c.args.sigma in
+    let Γ = ctx c.args.scope.now in
+    let f = c.in-Con.con.family in
+    let i = c.in-Con.con.place in
+    let ts = c.in-Con.params.items in
+    let ss = c.in-Con.fields.items in
+    let form : term c.args.t.now ≡ con_parts f i ts ss = search (rules, the_lemmas) in
+    let k = c.len-in-Con.result in
+    let m = c.len-in-Con-2.result in
+    let l : k ≡ length ts = search rules in
+    let o : m ≡ length ss = search rules in
+    let M = c.in_ok-made-in-Con.made in
+    let bs = M.params.items in
+    let cs = M.fields.items in
+    let none = c.new-values-in-Con.result.items in
+    let d : none ≡ [] = search rules in
+    let asks = ap (infer E p Γ) form ∙ con-lists E p Γ f i ts ss k m l o M c.in_ok-made-in-Con.ensures.made bs cs refl refl in
+    let z : length bs ≡ length ts = c.in_ok-made-in-Con.ensures.params ∙ l in
+    let b = c.deref-in-Con.ensures.value in
+    let a = c.deref-in-Con-2.ensures.value in
+    let vs = c.arguments-in-Con.new.values.items in
+    let v = rw a at c.in_ok-used-in-Con.ensures.values in
+    let b2 = c.deref-in-Con-3.ensures.value in
+    let a2 = c.deref-in-Con-4.ensures.value in
+    let h = rw (b, a) at c.in_ok-used-in-Con.ensures.gives in
+    let ws = c.arguments-in-Con-2.new.values.items in
+    let w = c.deref-in-Con-5.ensures.value in
+    let us : c.add.new.self ≡ usage_sum c.in_ok-used-in-Con.used c.in_ok-more-in-Con.more = c.add.ensures.uses in
+    given-as E N _ _ judged c.applied-in-Con.result asks
+    (finished _ judged c.applied-in-Con.result
+    (two-are E N p Γ (con_need E f i k (k + m)) (at rule.Con 1) (at rule.Con 2) bs cs (term M.ty) ts ss none d z c.in_ok-made-in-Con.ensures.gives vs c.in_ok-used-in-Con.used v h
+    ws c.in_ok-more-in-Con.more M.ty c.in_ok-more-in-Con.ensures.len (rw a2 at c.in_ok-more-in-Con.ensures.values) refl (rw (b2, a2) at c.in_ok-more-in-Con.ensures.gives))
+    (rw (w, us) at c.applied-in-Con.ensures.gives))
 
 pub judge-returns-in_err-used-in-IoTy-clause-gives : goal.judge-returns-in_err-used-in-IoTy-clause-gives
-judge-returns-in_err-used-in-IoTy-clause-gives g t c = ?
+judge-returns-in_err-used-in-IoTy-clause-gives g t c =
+    let E = env c.args.self.now.globals.now in
+    let N = c.args.self.now.budget in
+    let p = part c.args.sigma in
+    let Γ = ctx c.args.scope.now in
+    let A = term c.deref-in-IoTy.result.now in
+    let form : term c.args.t.now ≡ IoTy (io c.in-IoTy.field-0) A = search (rules, the_lemmas) in
+    let e = c.in_err-used-in-IoTy.field-0.0 in
+    given-as E N _ _ judged c.from_residual-in_err-used-in-IoTy.result (ap (infer E p Γ) form)
+    (passed E N _ judged c.from_residual-in_err-used-in-IoTy.result e c.from_residual-in_err-used-in-IoTy.ensures.1
+    (io-refused E N p Γ (io c.in-IoTy.field-0) A e (rw (sort-seen 0) at c.in_err-used-in-IoTy.ensures.gives)))
 
 pub judge-returns-in_ok-used-in-IoTy-clause-gives : goal.judge-returns-in_ok-used-in-IoTy-clause-gives
-judge-returns-in_ok-used-in-IoTy-clause-gives g t c = ?
+judge-returns-in_ok-used-in-IoTy-clause-gives g t c =
+    let E = env c.args.self.now.globals.now in
+    let N = c.args.self.now.budget in
+    let p = part c.args.sigma in
+    let Γ = ctx c.args.scope.now in
+    let A = term c.deref-in-IoTy.result.now in
+    let form : term c.args.t.now ≡ IoTy (io c.in-IoTy.field-0) A = search (rules, the_lemmas) in
+    let us = c.in_ok-used-in-IoTy.used in
+    reached
+    (subst (λ T. Reaches E N (infer E p Γ T) (inferred (Sort 0) (usage_scale 𝟘 us))) (sym form)
+    (io-is p Γ (io c.in-IoTy.field-0) A us c.in_ok-used-in-IoTy.ensures.len (rw (sort-seen 0) at c.in_ok-used-in-IoTy.ensures.gives)))
+    (sym c.io_end.ensures.gives)
 
 pub judge-returns-in_err-signature-in-Prim-clause-gives : goal.judge-returns-in_err-signature-in-Prim-clause-gives
-judge-returns-in_err-signature-in-Prim-clause-gives g t c = ?
+judge-returns-in_err-signature-in-Prim-clause-gives g t c =
+    let E = env c.args.self.now.globals.now in
+    let N = c.args.self.now.budget in
+    let p = part c.args.sigma in
+    let Γ = ctx c.args.scope.now in
+    let q = c.in-Prim.prim in
+    let ts = c.in-Prim.args.items in
+    let form : term c.args.t.now ≡ Call q (side_by_side (terms ts)) = search (rules, the_lemmas) in
+    let asks = ap (infer E p Γ) form ∙ named-asks E p Γ (Named.prim q) (terms ts) refl (prim-many q) in
+    let Θ = (prim_signature q).arguments in
+    let A = (prim_signature q).type in
+    let k = c.len-in-Prim.result in
+    let l : k ≡ length ts = search rules in
+    let e = c.in_err-signature-in-Prim.field-0.0 in
+    given-as E N _ _ judged c.from_residual-in_err-signature-in-Prim.result asks
+    (passed E N _ judged c.from_residual-in_err-signature-in-Prim.result e c.from_residual-in_err-signature-in-Prim.ensures.1
+    (one-uncounted E N p Γ (named_need E (Named.prim q)) (at rule.Prim 1) Θ A ts k l e c.in_err-signature-in-Prim.ensures.gives))
 
 pub judge-returns-in_err-used-in-Prim-clause-gives : goal.judge-returns-in_err-used-in-Prim-clause-gives
-judge-returns-in_err-used-in-Prim-clause-gives g t c = ?
+judge-returns-in_err-used-in-Prim-clause-gives g t c =
+    let E = env c.args.self.now.globals.now in
+    let N = c.args.self.now.budget in
+    let p = part c.args.sigma in
+    let Γ = ctx c.args.scope.now in
+    let q = c.in-Prim.prim in
+    let ts = c.in-Prim.args.items in
+    let form : term c.args.t.now ≡ Call q (side_by_side (terms ts)) = search (rules, the_lemmas) in
+    let asks = ap (infer E p Γ) form ∙ named-asks E p Γ (Named.prim q) (terms ts) refl (prim-many q) in
+    let Θ = (prim_signature q).arguments in
+    let A = (prim_signature q).type in
+    let k = c.len-in-Prim.result in
+    let l : k ≡ length ts = search rules in
+    let bs = c.in_ok-signature-in-Prim.signature.arguments.items in
+    let s : signature c.in_ok-signature-in-Prim.signature ≡ prim_signature q = c.in_ok-signature-in-Prim.ensures.signature in
+    let none = c.new-values-in-Prim.result.items in
+    let d : none ≡ [] = search rules in
+    let b = c.deref-in-Prim.ensures.value in
+    let a = c.deref-in-Prim-2.ensures.value in
+    let e = c.in_err-used-in-Prim.field-0.0 in
+    given-as E N _ _ judged c.from_residual-in_err-used-in-Prim.result asks
+    (passed E N _ judged c.from_residual-in_err-used-in-Prim.result e c.from_residual-in_err-used-in-Prim.ensures.1
+    (one-refused E N p Γ (named_need E (Named.prim q)) (at rule.Prim 1) Θ A ts k l bs none (ap (λ s. s.arguments) s) d c.in_ok-signature-in-Prim.ensures.gives e
+    (rw (b, a) at c.in_err-used-in-Prim.ensures.gives)))
 
 pub judge-returns-in_ok-used-in-Prim-clause-gives : goal.judge-returns-in_ok-used-in-Prim-clause-gives
-judge-returns-in_ok-used-in-Prim-clause-gives g t c = ?
+judge-returns-in_ok-used-in-Prim-clause-gives g t c =
+    let E = env c.args.self.now.globals.now in
+    let N = c.args.self.now.budget in
+    let p = part c.args.sigma in
+    let Γ = ctx c.args.scope.now in
+    let q = c.in-Prim.prim in
+    let ts = c.in-Prim.args.items in
+    let form : term c.args.t.now ≡ Call q (side_by_side (terms ts)) = search (rules, the_lemmas) in
+    let asks = ap (infer E p Γ) form ∙ named-asks E p Γ (Named.prim q) (terms ts) refl (prim-many q) in
+    let Θ = (prim_signature q).arguments in
+    let A = (prim_signature q).type in
+    let k = c.len-in-Prim.result in
+    let l : k ≡ length ts = search rules in
+    let bs = c.in_ok-signature-in-Prim.signature.arguments.items in
+    let s : signature c.in_ok-signature-in-Prim.signature ≡ prim_signature q = c.in_ok-signature-in-Prim.ensures.signature in
+    let none = c.new-values-in-Prim.result.items in
+    let d : none ≡ [] = search rules in
+    let b = c.deref-in-Prim.ensures.value in
+    let a = c.deref-in-Prim-2.ensures.value in
+    let vs = c.arguments-in-Prim.new.values.items in
+    let w = c.deref-in-Prim-3.ensures.value in
+    given-as E N _ _ judged c.applied-in-Prim.result asks
+    (finished _ judged c.applied-in-Prim.result
+    (one-is E N p Γ (named_need E (Named.prim q)) (at rule.Prim 1) Θ A ts k l bs none (ap (λ s. s.arguments) s) d c.in_ok-signature-in-Prim.ensures.gives
+    vs c.in_ok-signature-in-Prim.signature.ty c.in_ok-used-in-Prim.used (rw a at c.in_ok-used-in-Prim.ensures.values) (ap (λ s. s.type) s)
+    (rw (b, a) at c.in_ok-used-in-Prim.ensures.gives))
+    (rw w at c.applied-in-Prim.ensures.gives))
 
 pub judge-returns-in_err-signature-in-Act-clause-gives : goal.judge-returns-in_err-signature-in-Act-clause-gives
-judge-returns-in_err-signature-in-Act-clause-gives g t c = ?
+judge-returns-in_err-signature-in-Act-clause-gives g t c =
+    let E = env c.args.self.now.globals.now in
+    let N = c.args.self.now.budget in
+    let p = part c.args.sigma in
+    let Γ = ctx c.args.scope.now in
+    let a = action c.in-Act.kind in
+    let ts = c.in-Act.types.items in
+    let ss = c.in-Act.args.items in
+    let form : term c.args.t.now ≡ act_parts a ts ss = search (rules, the_lemmas) in
+    let k = c.len-in-Act.result in
+    let m = c.len-in-Act-2.result in
+    let l : k ≡ length ts = search rules in
+    let o : m ≡ length ss = search rules in
+    let e = c.in_err-signature-in-Act.field-0.0 in
+    given-as E N _ _ judged c.from_residual-in_err-signature-in-Act.result (ap (infer E p Γ) form)
+    (passed E N _ judged c.from_residual-in_err-signature-in-Act.result e c.from_residual-in_err-signature-in-Act.ensures.1
+    (act-uncounted E N p Γ a ts ss k m l o e c.in_err-signature-in-Act.ensures.gives))
 
 pub judge-returns-in_err-used-in-Act-clause-gives : goal.judge-returns-in_err-used-in-Act-clause-gives
-judge-returns-in_err-used-in-Act-clause-gives g t c = ?
+judge-returns-in_err-used-in-Act-clause-gives g t c =
+    let E = env c.args.self.now.globals.now in
+    let N = c.args.self.now.budget in
+    let p = part c.args.sigma in
+    let Γ = ctx c.args.scope.now in
+    let a = action c.in-Act.kind in
+    let ts = c.in-Act.types.items in
+    let ss = c.in-Act.args.items in
+    let form : term c.args.t.now ≡ act_parts a ts ss = search (rules, the_lemmas) in
+    let k = c.len-in-Act.result in
+    let m = c.len-in-Act-2.result in
+    let l : k ≡ length ts = search rules in
+    let o : m ≡ length ss = search rules in
+    let S = c.in_ok-signature-in-Act.signature in
+    let bs = c.split_at.result.0.now in
+    let cs = c.split_at.result.1.now in
+    let at_len = c.len-in-Act-3.result in
+    let split : S.arguments.items ≡ bs ++ cs = sym (take-append-drop at_len S.arguments.items) ∙ sym (ap₂ (λ x y. x ++ y) (rw c.deref-in-Act.ensures.value at c.split_at.ensures.front) (rw c.deref-in-Act.ensures.value at c.split_at.ensures.back)) in
+    let none = c.new-values-in-Act.result.items in
+    let d : none ≡ [] = search rules in
+    let asks = ap (infer E p Γ) form ∙ act-lists E p Γ a ts ss k m l o S c.in_ok-signature-in-Act.ensures.signature bs cs split in
+    let z : length bs ≡ length ts = search rules in
+    let b = c.deref-in-Act-2.ensures.value in
+    let e = c.in_err-used-in-Act.field-0.0 in
+    given-as E N _ _ judged c.from_residual-in_err-used-in-Act.result asks
+    (passed E N _ judged c.from_residual-in_err-used-in-Act.result e c.from_residual-in_err-used-in-Act.ensures.1
+    (two-refused-first E N p Γ (act_need a (k + m)) (at rule.Act 1) (at rule.Act 1) bs cs (term S.ty) ts ss none d z c.in_ok-signature-in-Act.ensures.gives e (rw b at c.in_err-used-in-Act.ensures.gives)))
 
 pub judge-returns-in_err-more-in-Act-clause-gives : goal.judge-returns-in_err-more-in-Act-clause-gives
-judge-returns-in_err-more-in-Act-clause-gives g t c = ?
+judge-returns-in_err-more-in-Act-clause-gives g t c =
+    let E = env c.args.self.now.globals.now in
+    let N = c.args.self.now.budget in
+    let p = part c.args.sigma in
+    let Γ = ctx c.args.scope.now in
+    let a = action c.in-Act.kind in
+    let ts = c.in-Act.types.items in
+    let ss = c.in-Act.args.items in
+    let form : term c.args.t.now ≡ act_parts a ts ss = search (rules, the_lemmas) in
+    let k = c.len-in-Act.result in
+    let m = c.len-in-Act-2.result in
+    let l : k ≡ length ts = search rules in
+    let o : m ≡ length ss = search rules in
+    let S = c.in_ok-signature-in-Act.signature in
+    let bs = c.split_at.result.0.now in
+    let cs = c.split_at.result.1.now in
+    let at_len = c.len-in-Act-3.result in
+    let split : S.arguments.items ≡ bs ++ cs = sym (take-append-drop at_len S.arguments.items) ∙ sym (ap₂ (λ x y. x ++ y) (rw c.deref-in-Act.ensures.value at c.split_at.ensures.front) (rw c.deref-in-Act.ensures.value at c.split_at.ensures.back)) in
+    let none = c.new-values-in-Act.result.items in
+    let d : none ≡ [] = search rules in
+    let asks = ap (infer E p Γ) form ∙ act-lists E p Γ a ts ss k m l o S c.in_ok-signature-in-Act.ensures.signature bs cs split in
+    let z : length bs ≡ length ts = search rules in
+    let b = c.deref-in-Act-2.ensures.value in
+    let vs = c.arguments-in-Act.new.values.items in
+    let v = rw b at c.in_ok-used-in-Act.ensures.values in
+    let b2 = c.deref-in-Act-3.ensures.value in
+    let h = rw b at c.in_ok-used-in-Act.ensures.gives in
+    let e = c.in_err-more-in-Act.field-0.0 in
+    given-as E N _ _ judged c.from_residual-in_err-more-in-Act.result asks
+    (passed E N _ judged c.from_residual-in_err-more-in-Act.result e c.from_residual-in_err-more-in-Act.ensures.1
+    (two-refused-second E N p Γ (act_need a (k + m)) (at rule.Act 1) (at rule.Act 1) bs cs (term S.ty) ts ss none d z c.in_ok-signature-in-Act.ensures.gives vs c.in_ok-used-in-Act.used v h e (rw b2 at c.in_err-more-in-Act.ensures.gives)))
 
 pub judge-returns-in_ok-more-in-Act-clause-gives : goal.judge-returns-in_ok-more-in-Act-clause-gives
-judge-returns-in_ok-more-in-Act-clause-gives g t c = ?
+judge-returns-in_ok-more-in-Act-clause-gives g t c =
+    let E = env c.args.self.now.globals.now in
+    let N = c.args.self.now.budget in
+    let p = part c.args.sigma in
+    let Γ = ctx c.args.scope.now in
+    let a = action c.in-Act.kind in
+    let ts = c.in-Act.types.items in
+    let ss = c.in-Act.args.items in
+    let form : term c.args.t.now ≡ act_parts a ts ss = search (rules, the_lemmas) in
+    let k = c.len-in-Act.result in
+    let m = c.len-in-Act-2.result in
+    let l : k ≡ length ts = search rules in
+    let o : m ≡ length ss = search rules in
+    let S = c.in_ok-signature-in-Act.signature in
+    let bs = c.split_at.result.0.now in
+    let cs = c.split_at.result.1.now in
+    let at_len = c.len-in-Act-3.result in
+    let split : S.arguments.items ≡ bs ++ cs = sym (take-append-drop at_len S.arguments.items) ∙ sym (ap₂ (λ x y. x ++ y) (rw c.deref-in-Act.ensures.value at c.split_at.ensures.front) (rw c.deref-in-Act.ensures.value at c.split_at.ensures.back)) in
+    let none = c.new-values-in-Act.result.items in
+    let d : none ≡ [] = search rules in
+    let asks = ap (infer E p Γ) form ∙ act-lists E p Γ a ts ss k m l o S c.in_ok-signature-in-Act.ensures.signature bs cs split in
+    let z : length bs ≡ length ts = search rules in
+    let b = c.deref-in-Act-2.ensures.value in
+    let vs = c.arguments-in-Act.new.values.items in
+    let v = rw b at c.in_ok-used-in-Act.ensures.values in
+    let b2 = c.deref-in-Act-3.ensures.value in
+    let h = rw b at c.in_ok-used-in-Act.ensures.gives in
+    let ws = c.arguments-in-Act-2.new.values.items in
+    let w = c.deref-in-Act-4.ensures.value in
+    let us : c.add-in-Act.new.self ≡ usage_sum c.in_ok-used-in-Act.used c.in_ok-more-in-Act.more = c.add-in-Act.ensures.uses in
+    given-as E N _ _ judged c.applied-in-Act.result asks
+    (finished _ judged c.applied-in-Act.result
+    (two-are E N p Γ (act_need a (k + m)) (at rule.Act 1) (at rule.Act 1) bs cs (term S.ty) ts ss none d z c.in_ok-signature-in-Act.ensures.gives vs c.in_ok-used-in-Act.used v h
+    ws c.in_ok-more-in-Act.more S.ty c.in_ok-more-in-Act.ensures.len (rw b2 at c.in_ok-more-in-Act.ensures.values) refl (rw b2 at c.in_ok-more-in-Act.ensures.gives))
+    (rw (w, us) at c.applied-in-Act.ensures.gives))
 
 pub judge-returns-in_err-type_of-in-Trap-clause-gives : goal.judge-returns-in_err-type_of-in-Trap-clause-gives
 judge-returns-in_err-type_of-in-Trap-clause-gives g t c =
@@ -133,10 +507,43 @@ judge-returns-in_ok-copy-in-Trap-clause-gives g t c =
     let copied : term c.deref-in-Trap.result.now ≡ term c.in_ok-copy-in-Trap.field-0 = search rules in let form : term c.args.t.now ≡ Trap (term c.deref-in-Trap.result.now) = search (rules, the_lemmas) in rw form (finished _ judged c.plain_row.result (reached (on _ c.in_ok-type_of-in-Trap.ensures on_done) (ap (λ A. inferred A (no_usage (length (ctx c.args.scope.now)))) copied)) c.plain_row.ensures.gives)
 
 pub judge-returns-in-Lit-clause-gives : goal.judge-returns-in-Lit-clause-gives
-judge-returns-in-Lit-clause-gives g t c = ?
+judge-returns-in-Lit-clause-gives g t c =
+    let E = env c.args.self.now.globals.now in
+    let N = c.args.self.now.budget in
+    let p = part c.args.sigma in
+    let Γ = ctx c.args.scope.now in
+    let form : term c.args.t.now ≡ node (Form.named (Named.lit c.in-Lit.lit)) ε = search (rules, the_lemmas) in
+    given-as E N _ _ judged c.lit_row.result (ap (infer E p Γ) form) (finished _ judged c.lit_row.result (lit-is Γ p c.in-Lit.lit) c.lit_row.ensures.gives)
 
 pub judge-returns-in-IntTy-clause-gives : goal.judge-returns-in-IntTy-clause-gives
-judge-returns-in-IntTy-clause-gives g t c = ?
+judge-returns-in-IntTy-clause-gives g t c =
+    let E = env c.args.self.now.globals.now in
+    let N = c.args.self.now.budget in
+    let p = part c.args.sigma in
+    let Γ = ctx c.args.scope.now in
+    let form : term c.args.t.now ≡ IntTy = search (rules, the_lemmas) in
+    given-as E N _ _ judged c.plain_row-in-IntTy.result (ap (infer E p Γ) form)
+    (finished _ judged c.plain_row-in-IntTy.result (int-is Γ p) (rw (sort-seen 0) at c.plain_row-in-IntTy.ensures.gives))
+
+pub judge-returns-in-StringTy-clause-gives : goal.judge-returns-in-StringTy-clause-gives
+judge-returns-in-StringTy-clause-gives g t c =
+    let E = env c.args.self.now.globals.now in
+    let N = c.args.self.now.budget in
+    let p = part c.args.sigma in
+    let Γ = ctx c.args.scope.now in
+    let form : term c.args.t.now ≡ StringTy = search (rules, the_lemmas) in
+    given-as E N _ _ judged c.plain_row-in-StringTy.result (ap (infer E p Γ) form)
+    (finished _ judged c.plain_row-in-StringTy.result (string-is Γ p) (rw (sort-seen 0) at c.plain_row-in-StringTy.ensures.gives))
+
+pub judge-returns-in-HandleTy-clause-gives : goal.judge-returns-in-HandleTy-clause-gives
+judge-returns-in-HandleTy-clause-gives g t c =
+    let E = env c.args.self.now.globals.now in
+    let N = c.args.self.now.budget in
+    let p = part c.args.sigma in
+    let Γ = ctx c.args.scope.now in
+    let form : term c.args.t.now ≡ HandleTy = search (rules, the_lemmas) in
+    given-as E N _ _ judged c.plain_row-in-HandleTy.result (ap (infer E p Γ) form)
+    (finished _ judged c.plain_row-in-HandleTy.result (handle-is Γ p) (rw (sort-seen 0) at c.plain_row-in-HandleTy.ensures.gives))
 
 pub has-returns-in_err-found-clause-gives : goal.has-returns-in_err-found-clause-gives
 has-returns-in_err-found-clause-gives g t c =
@@ -183,22 +590,222 @@ arguments-returns-clause-len g t c =
     c.loop-place.invariant.0.counted
 
 pub case-returns-in_err-family-clause-gives : goal.case-returns-in_err-family-clause-gives
-case-returns-in_err-family-clause-gives g t c = ?
+case-returns-in_err-family-clause-gives g t c =
+    let E = env c.args.self.now.globals.now in
+    let N = c.args.self.now.budget in
+    let p = part c.args.sigma in
+    let Γ = ctx c.args.scope.now in
+    let K = out-Case c.args.case.now in
+    let ps = K.params.items in
+    let q = K.mult in
+    let f = K.family in
+    let P = term K.motive in
+    let s = term K.scrutinee in
+    let form : case c.args.case.now ≡ case_term q f (terms ps) (K.indices + 1) P (branches K.branches.items) s = search (rules, the_lemmas) in
+    let same = ap (infer E p Γ) form in
+    let l : c.len.result ≡ length ps = search rules in
+    let e : c.deref.result.now ≡ K.branches.items = search rules in
+    let r = c.in_err-family.field-0.0 in
+    given-as E N _ _ judged c.from_residual.result same
+    (passed E N _ judged c.from_residual.result r c.from_residual.ensures.1 (case-unshaped E N p Γ q f ps (K.indices + 1) P s K.branches.items c.deref.result.now c.len.result l e r c.in_err-family.ensures.gives))
 
 pub case-returns-in_err-arguments-clause-gives : goal.case-returns-in_err-arguments-clause-gives
-case-returns-in_err-arguments-clause-gives g t c = ?
+case-returns-in_err-arguments-clause-gives g t c =
+    let E = env c.args.self.now.globals.now in
+    let N = c.args.self.now.budget in
+    let p = part c.args.sigma in
+    let Γ = ctx c.args.scope.now in
+    let K = out-Case c.args.case.now in
+    let ps = K.params.items in
+    let q = K.mult in
+    let f = K.family in
+    let P = term K.motive in
+    let s = term K.scrutinee in
+    let form : case c.args.case.now ≡ case_term q f (terms ps) (K.indices + 1) P (branches K.branches.items) s = search (rules, the_lemmas) in
+    let same = ap (infer E p Γ) form in
+    let l : c.len.result ≡ length ps = search rules in
+    let e : c.deref.result.now ≡ K.branches.items = search rules in
+    let F = c.in_ok-family.family.now in
+    let S = fam_sig f (family F) in
+    let there = found-family E f (family F) c.in_ok-family.ensures.found in
+    let a : length ps ≡ length S.params = sym (length-params F ∙ c.in_ok-family.ensures.params ∙ l) in
+    let n : length K.branches.items ≡ length S.constructors =
+    ap length (sym e) ∙ c.in_ok-family.ensures.branches ∙ sym (length-sigs f (length (family F).params) 0 (family F).constructors ∙ length-map F.constructors.items constructor) in
+    let Θ = tele c.in_ok-binders.binders.items in
+    let none = c.new-params.result.items in
+    let d : none ≡ [] = search rules in
+    let v2 = c.deref-2.ensures.value in
+    let v3 = c.deref-3.ensures.value in
+    let r = c.in_err-arguments.field-0.0 in
+    given-as E N _ _ judged c.from_residual-in_err-arguments.result same
+    (passed E N _ judged c.from_residual-in_err-arguments.result r c.from_residual-in_err-arguments.ensures.1 (case-params-refused E N p Γ q f ps (K.indices + 1) P s K.branches.items c.deref.result.now c.len.result l e S there a n c.in_ok-family.ensures.gives Θ c.in_ok-binders.ensures none d r (rw (v2, v3) at c.in_err-arguments.ensures.gives)))
 
 pub case-returns-in_err-type_of-clause-gives : goal.case-returns-in_err-type_of-clause-gives
-case-returns-in_err-type_of-clause-gives g t c = ?
+case-returns-in_err-type_of-clause-gives g t c =
+    let E = env c.args.self.now.globals.now in
+    let N = c.args.self.now.budget in
+    let p = part c.args.sigma in
+    let Γ = ctx c.args.scope.now in
+    let K = out-Case c.args.case.now in
+    let ps = K.params.items in
+    let q = K.mult in
+    let f = K.family in
+    let P = term K.motive in
+    let s = term K.scrutinee in
+    let form : case c.args.case.now ≡ case_term q f (terms ps) (K.indices + 1) P (branches K.branches.items) s = search (rules, the_lemmas) in
+    let same = ap (infer E p Γ) form in
+    let l : c.len.result ≡ length ps = search rules in
+    let e : c.deref.result.now ≡ K.branches.items = search rules in
+    let F = c.in_ok-family.family.now in
+    let S = fam_sig f (family F) in
+    let there = found-family E f (family F) c.in_ok-family.ensures.found in
+    let a : length ps ≡ length S.params = sym (length-params F ∙ c.in_ok-family.ensures.params ∙ l) in
+    let n : length K.branches.items ≡ length S.constructors =
+    ap length (sym e) ∙ c.in_ok-family.ensures.branches ∙ sym (length-sigs f (length (family F).params) 0 (family F).constructors ∙ length-map F.constructors.items constructor) in
+    let Θ = tele c.in_ok-binders.binders.items in
+    let none = c.new-params.result.items in
+    let d : none ≡ [] = search rules in
+    let v2 = c.deref-2.ensures.value in
+    let v3 = c.deref-3.ensures.value in
+    let vs = c.arguments.new.values.items in
+    let σ = filled vs in
+    let fs = args-filled none vs ps d (rw v3 at c.in_ok-arguments.ensures.values) in
+    let Ξ = tele c.in_ok-binders-2.binders.items in
+    let v4 = c.deref-4.ensures.value in
+    let v5 = c.deref-5.ensures.value in
+    let x : Ξ ≡ sub_binds σ S.motive = rw v5 at c.in_ok-binders-2.ensures in
+    let v6 = c.deref-6.ensures.value in
+    let g1 = rw (v2, v3) at c.in_ok-arguments.ensures.gives in
+    let r = c.in_err-type_of.field-0.0 in
+    given-as E N _ _ judged c.from_residual-in_err-type_of.result same
+    (passed E N _ judged c.from_residual-in_err-type_of.result r c.from_residual-in_err-type_of.ensures.1 (case-motive-refused E N p Γ q f ps (K.indices + 1) P s K.branches.items c.deref.result.now c.len.result l e S there a n c.in_ok-family.ensures.gives Θ c.in_ok-binders.ensures none d c.in_ok-arguments.field-0 g1 σ fs Ξ x r (rw v6 at c.in_err-type_of.ensures)))
 
 pub case-returns-in_err-joined-clause-gives : goal.case-returns-in_err-joined-clause-gives
-case-returns-in_err-joined-clause-gives g t c = ?
+case-returns-in_err-joined-clause-gives g t c =
+    let E = env c.args.self.now.globals.now in
+    let N = c.args.self.now.budget in
+    let p = part c.args.sigma in
+    let Γ = ctx c.args.scope.now in
+    let K = out-Case c.args.case.now in
+    let ps = K.params.items in
+    let q = K.mult in
+    let f = K.family in
+    let P = term K.motive in
+    let s = term K.scrutinee in
+    let form : case c.args.case.now ≡ case_term q f (terms ps) (K.indices + 1) P (branches K.branches.items) s = search (rules, the_lemmas) in
+    let same = ap (infer E p Γ) form in
+    let l : c.len.result ≡ length ps = search rules in
+    let e : c.deref.result.now ≡ K.branches.items = search rules in
+    let F = c.in_ok-family.family.now in
+    let S = fam_sig f (family F) in
+    let there = found-family E f (family F) c.in_ok-family.ensures.found in
+    let a : length ps ≡ length S.params = sym (length-params F ∙ c.in_ok-family.ensures.params ∙ l) in
+    let n : length K.branches.items ≡ length S.constructors =
+    ap length (sym e) ∙ c.in_ok-family.ensures.branches ∙ sym (length-sigs f (length (family F).params) 0 (family F).constructors ∙ length-map F.constructors.items constructor) in
+    let Θ = tele c.in_ok-binders.binders.items in
+    let none = c.new-params.result.items in
+    let d : none ≡ [] = search rules in
+    let v2 = c.deref-2.ensures.value in
+    let v3 = c.deref-3.ensures.value in
+    let vs = c.arguments.new.values.items in
+    let σ = filled vs in
+    let fs = args-filled none vs ps d (rw v3 at c.in_ok-arguments.ensures.values) in
+    let Ξ = tele c.in_ok-binders-2.binders.items in
+    let v4 = c.deref-4.ensures.value in
+    let v5 = c.deref-5.ensures.value in
+    let x : Ξ ≡ sub_binds σ S.motive = rw v5 at c.in_ok-binders-2.ensures in
+    let v6 = c.deref-6.ensures.value in
+    let g1 = rw (v2, v3) at c.in_ok-arguments.ensures.gives in
+    let g2 = rw v6 at c.in_ok-type_of.ensures in
+    let v7 = c.deref-7.ensures.value in
+    let r = c.in_err-joined.field-0.0 in
+    given-as E N _ _ judged c.from_residual-in_err-joined.result same
+    (passed E N _ judged c.from_residual-in_err-joined.result r c.from_residual-in_err-joined.ensures.1 (case-branches-refused E N p Γ q f ps (K.indices + 1) P s K.branches.items c.deref.result.now c.len.result l e S there a n c.in_ok-family.ensures.gives Θ c.in_ok-binders.ensures none d c.in_ok-arguments.field-0 g1 σ fs Ξ x c.in_ok-type_of.field-0 g2 r (rw (v4, v7) at c.in_err-joined.ensures.gives)))
 
 pub case-returns-in_err-found-clause-gives : goal.case-returns-in_err-found-clause-gives
-case-returns-in_err-found-clause-gives g t c = ?
+case-returns-in_err-found-clause-gives g t c =
+    let E = env c.args.self.now.globals.now in
+    let N = c.args.self.now.budget in
+    let p = part c.args.sigma in
+    let Γ = ctx c.args.scope.now in
+    let K = out-Case c.args.case.now in
+    let ps = K.params.items in
+    let q = K.mult in
+    let f = K.family in
+    let P = term K.motive in
+    let s = term K.scrutinee in
+    let form : case c.args.case.now ≡ case_term q f (terms ps) (K.indices + 1) P (branches K.branches.items) s = search (rules, the_lemmas) in
+    let same = ap (infer E p Γ) form in
+    let l : c.len.result ≡ length ps = search rules in
+    let e : c.deref.result.now ≡ K.branches.items = search rules in
+    let F = c.in_ok-family.family.now in
+    let S = fam_sig f (family F) in
+    let there = found-family E f (family F) c.in_ok-family.ensures.found in
+    let a : length ps ≡ length S.params = sym (length-params F ∙ c.in_ok-family.ensures.params ∙ l) in
+    let n : length K.branches.items ≡ length S.constructors =
+    ap length (sym e) ∙ c.in_ok-family.ensures.branches ∙ sym (length-sigs f (length (family F).params) 0 (family F).constructors ∙ length-map F.constructors.items constructor) in
+    let Θ = tele c.in_ok-binders.binders.items in
+    let none = c.new-params.result.items in
+    let d : none ≡ [] = search rules in
+    let v2 = c.deref-2.ensures.value in
+    let v3 = c.deref-3.ensures.value in
+    let vs = c.arguments.new.values.items in
+    let σ = filled vs in
+    let fs = args-filled none vs ps d (rw v3 at c.in_ok-arguments.ensures.values) in
+    let Ξ = tele c.in_ok-binders-2.binders.items in
+    let v4 = c.deref-4.ensures.value in
+    let v5 = c.deref-5.ensures.value in
+    let x : Ξ ≡ sub_binds σ S.motive = rw v5 at c.in_ok-binders-2.ensures in
+    let v6 = c.deref-6.ensures.value in
+    let g1 = rw (v2, v3) at c.in_ok-arguments.ensures.gives in
+    let g2 = rw v6 at c.in_ok-type_of.ensures in
+    let v7 = c.deref-7.ensures.value in
+    let g3 = rw (v4, v7) at c.in_ok-joined.ensures.gives in
+    let r = c.in_err-found.field-0.0 in
+    given-as E N _ _ judged c.from_residual-in_err-found.result same
+    (passed E N _ judged c.from_residual-in_err-found.result r c.from_residual-in_err-found.ensures.1 (case-scrutinee-refused E N p Γ q f ps (K.indices + 1) P s K.branches.items c.deref.result.now c.len.result l e S there a n c.in_ok-family.ensures.gives Θ c.in_ok-binders.ensures none d c.in_ok-arguments.field-0 g1 σ fs Ξ x c.in_ok-type_of.field-0 g2 c.in_ok-joined.joined g3 r (rw c.under.ensures at c.in_err-found.ensures.gives)))
 
 pub case-returns-clause-gives : goal.case-returns-clause-gives
-case-returns-clause-gives g t c = ?
+case-returns-clause-gives g t c =
+    let E = env c.args.self.now.globals.now in
+    let N = c.args.self.now.budget in
+    let p = part c.args.sigma in
+    let Γ = ctx c.args.scope.now in
+    let K = out-Case c.args.case.now in
+    let ps = K.params.items in
+    let q = K.mult in
+    let f = K.family in
+    let P = term K.motive in
+    let s = term K.scrutinee in
+    let form : case c.args.case.now ≡ case_term q f (terms ps) (K.indices + 1) P (branches K.branches.items) s = search (rules, the_lemmas) in
+    let same = ap (infer E p Γ) form in
+    let l : c.len.result ≡ length ps = search rules in
+    let e : c.deref.result.now ≡ K.branches.items = search rules in
+    let F = c.in_ok-family.family.now in
+    let S = fam_sig f (family F) in
+    let there = found-family E f (family F) c.in_ok-family.ensures.found in
+    let a : length ps ≡ length S.params = sym (length-params F ∙ c.in_ok-family.ensures.params ∙ l) in
+    let n : length K.branches.items ≡ length S.constructors =
+    ap length (sym e) ∙ c.in_ok-family.ensures.branches ∙ sym (length-sigs f (length (family F).params) 0 (family F).constructors ∙ length-map F.constructors.items constructor) in
+    let Θ = tele c.in_ok-binders.binders.items in
+    let none = c.new-params.result.items in
+    let d : none ≡ [] = search rules in
+    let v2 = c.deref-2.ensures.value in
+    let v3 = c.deref-3.ensures.value in
+    let vs = c.arguments.new.values.items in
+    let σ = filled vs in
+    let fs = args-filled none vs ps d (rw v3 at c.in_ok-arguments.ensures.values) in
+    let Ξ = tele c.in_ok-binders-2.binders.items in
+    let v4 = c.deref-4.ensures.value in
+    let v5 = c.deref-5.ensures.value in
+    let x : Ξ ≡ sub_binds σ S.motive = rw v5 at c.in_ok-binders-2.ensures in
+    let v6 = c.deref-6.ensures.value in
+    let g1 = rw (v2, v3) at c.in_ok-arguments.ensures.gives in
+    let g2 = rw v6 at c.in_ok-type_of.ensures in
+    let v7 = c.deref-7.ensures.value in
+    let g3 = rw (v4, v7) at c.in_ok-joined.ensures.gives in
+    given-as E N _ _ judged c.case_end.result same
+    (case-ends E N p Γ q f ps (K.indices + 1) P s K.branches.items c.deref.result.now c.len.result l e S there a n c.in_ok-family.ensures.gives Θ c.in_ok-binders.ensures none d c.in_ok-arguments.field-0 g1 σ fs Ξ x c.in_ok-type_of.field-0 g2 c.in_ok-joined.joined g3 (judged c.in_ok-found.found) c.case_end.result (rw c.under.ensures at c.in_ok-found.ensures.gives) (rw v4 at c.case_end.ensures.gives))
 
 pub branches-loop-place-init : goal.branches-loop-place-init
 branches-loop-place-init g t c =
@@ -221,13 +828,67 @@ branches-returns-clause-len g t c =
     c.loop-place.invariant.counted
 
 pub branch-returns-in_err-found-clause-gives : goal.branch-returns-in_err-found-clause-gives
-branch-returns-in_err-found-clause-gives g t c = ?
+branch-returns-in_err-found-clause-gives g t c =
+    λ d y.
+    let E = env c.args.self.now.globals.now in
+    let N = c.args.self.now.budget in
+    let p = part c.args.sigma in
+    let Γ = ctx c.args.scope.now in
+    let M = c.args.matching.now in
+    let F = M.family.now in
+    let x = c.index-constructor.result.now in
+    let i : x ≡ get_or F.constructors.items c.args.place x = search rules in
+    let n : length (family F).params ≡ length F.params.items = length-params F in
+    let D = sig-at M.id F (length (family F).params) c.args.place c.args.place x d c.requires i n refl y in
+    let bs = c.in_ok-binders.binders.items in
+    let b : tele bs ≡ sub_binds (params_of M) (scale M.mult (tele x.fields.items)) = search rules in
+    let Ξ = b ∙ ap (λ d. sub_binds (params_of M) (scale M.mult d.fields)) D in
+    let v = c.deref-2.ensures.value in
+    let e = c.in_err-found.field-0.0 in
+    passed E N _ _ c.from_residual-in_err-found.result e c.from_residual-in_err-found.ensures.1 (branch-is-refused E N p Γ (case_of M) (params_of M) (motive_of M) d (term c.args.body.now) (tele bs) Ξ e (rw v at c.in_err-found.ensures.gives))
 
 pub branch-returns-in_err-agree-clause-gives : goal.branch-returns-in_err-agree-clause-gives
-branch-returns-in_err-agree-clause-gives g t c = ?
+branch-returns-in_err-agree-clause-gives g t c =
+    λ d y.
+    let E = env c.args.self.now.globals.now in
+    let N = c.args.self.now.budget in
+    let p = part c.args.sigma in
+    let Γ = ctx c.args.scope.now in
+    let M = c.args.matching.now in
+    let F = M.family.now in
+    let x = c.index-constructor.result.now in
+    let i : x ≡ get_or F.constructors.items c.args.place x = search rules in
+    let n : length (family F).params ≡ length F.params.items = length-params F in
+    let D = sig-at M.id F (length (family F).params) c.args.place c.args.place x d c.requires i n refl y in
+    let bs = c.in_ok-binders.binders.items in
+    let b : tele bs ≡ sub_binds (params_of M) (scale M.mult (tele x.fields.items)) = search rules in
+    let Ξ = b ∙ ap (λ d. sub_binds (params_of M) (scale M.mult d.fields)) D in
+    let v = c.deref-2.ensures.value in
+    let e = c.in_err-agree.field-0.0 in
+    passed E N _ _ c.from_residual-in_err-agree.result e c.from_residual-in_err-agree.ensures.1
+    (branch-differs E N p Γ (case_of M) (params_of M) (motive_of M) d (term c.args.body.now) (tele bs) Ξ (judged c.in_ok-found.found) (rw v at c.in_ok-found.ensures.gives) (term c.in_ok-wanted.wanted) (c.in_ok-wanted.ensures d y) e
+    (rw v at c.in_err-agree.ensures))
 
 pub branch-returns-clause-gives : goal.branch-returns-clause-gives
-branch-returns-clause-gives g t c = ?
+branch-returns-clause-gives g t c =
+    λ d y.
+    let E = env c.args.self.now.globals.now in
+    let N = c.args.self.now.budget in
+    let p = part c.args.sigma in
+    let Γ = ctx c.args.scope.now in
+    let M = c.args.matching.now in
+    let F = M.family.now in
+    let x = c.index-constructor.result.now in
+    let i : x ≡ get_or F.constructors.items c.args.place x = search rules in
+    let n : length (family F).params ≡ length F.params.items = length-params F in
+    let D = sig-at M.id F (length (family F).params) c.args.place c.args.place x d c.requires i n refl y in
+    let bs = c.in_ok-binders.binders.items in
+    let b : tele bs ≡ sub_binds (params_of M) (scale M.mult (tele x.fields.items)) = search rules in
+    let Ξ = b ∙ ap (λ d. sub_binds (params_of M) (scale M.mult d.fields)) D in
+    let v = c.deref-2.ensures.value in
+    let w = c.deref-3.ensures.value in
+    branch-ends E N p Γ (case_of M) (params_of M) (motive_of M) d (term c.args.body.now) (tele bs) Ξ (judged c.in_ok-found.found) (rw v at c.in_ok-found.ensures.gives) (term c.in_ok-wanted.wanted) (c.in_ok-wanted.ensures d y) c.branch_end.result
+    (rw v at c.in_ok-agree.ensures) (rw w at c.branch_end.ensures.gives)
 
 pub delete-returns-then-not-usable-clause-gives : goal.delete-returns-then-not-usable-clause-gives
 delete-returns-then-not-usable-clause-gives g t c =
@@ -258,4 +919,5 @@ delete-returns-clause-gives g t c =
     let d = out-Delete c.args.delete.now in let form : delete c.args.delete.now ≡ Delete d.mult (term d.ty) (term d.point) (term d.motive) (term d.branch) (term d.scrutinee) = search (rules, the_lemmas) in rw form (finished _ judged c.delete_end.result (on _ (holds _ _ (search rules)) (on _ (rw (sort-seen 0) at c.in_ok-has.ensures.gives) (on _ c.in_ok-has-2.ensures.gives (on _ (rw c.in_ok-equality.ensures at c.in_ok-type_of.ensures) (on _ (rw c.in_ok-wanted.ensures at c.in_ok-branch.ensures.gives) (on _ (rw (c.under-inside.ensures, c.in_ok-equality.ensures) at c.in_ok-used.ensures.gives) on_done)))))) c.delete_end.ensures.gives)
 
 pub delete-delete_end-requires : goal.delete-delete_end-requires
-delete-delete_end-requires g t c = ?
+delete-delete_end-requires g t c =
+    c.in_ok-branch.ensures.len ∙ sym c.in_ok-used.ensures.len

@@ -38,7 +38,7 @@ returns-in_err-agree-clause-gives g c =
     (λ n. Reaches (env c.args.self.now.globals.now) c.args.self.now.budget (family_of (ctx c.args.scope.now) m.id n (term c.args.found.ty) (at rule.Case 6)) (side_by_side (terms ts))) k
     c.in_ok-args.ensures.gives in
     let n : c.len-count.result ≡ length F.params.items = search rules in
-    let d : terms c.in_ok-indices.indices.items ≡ terms (drop c.len-count.result ts) = search rules in
+    let d : terms c.in_ok-indices.indices.items ≡ terms (drop c.len-count.result ts) = c.in_ok-indices.ensures ∙ ap terms (c.split_at.ensures.back ∙ ap (drop c.len-count.result) c.deref.ensures.value) in
     let i : side_by_side (terms c.in_ok-indices.indices.items) ≡ skip (length S.params) (side_by_side (terms ts)) =
     ap side_by_side d ∙ sym (skip-side c.len-count.result ts) ∙ ap (λ k. skip k (side_by_side (terms ts))) (n ∙ sym (length-params F)) in
     let t : term c.in_ok-wanted.wanted ≡ sub (push (side_by_side (terms c.in_ok-indices.indices.items)) (params_of m)) S.self = search rules in
@@ -60,7 +60,7 @@ returns-clause-gives g c =
     (λ n. Reaches (env c.args.self.now.globals.now) c.args.self.now.budget (family_of (ctx c.args.scope.now) m.id n (term c.args.found.ty) (at rule.Case 6)) (side_by_side (terms ts))) k
     c.in_ok-args.ensures.gives in
     let n : c.len-count.result ≡ length F.params.items = search rules in
-    let d : terms c.in_ok-indices.indices.items ≡ terms (drop c.len-count.result ts) = search rules in
+    let d : terms c.in_ok-indices.indices.items ≡ terms (drop c.len-count.result ts) = c.in_ok-indices.ensures ∙ ap terms (c.split_at.ensures.back ∙ ap (drop c.len-count.result) c.deref.ensures.value) in
     let i : side_by_side (terms c.in_ok-indices.indices.items) ≡ skip (length S.params) (side_by_side (terms ts)) =
     ap side_by_side d ∙ sym (skip-side c.len-count.result ts) ∙ ap (λ k. skip k (side_by_side (terms ts))) (n ∙ sym (length-params F)) in
     let t : term c.in_ok-wanted.wanted ≡ sub (push (side_by_side (terms c.in_ok-indices.indices.items)) (params_of m)) S.self = search rules in

@@ -1,4 +1,4 @@
-use Rattle.std.proofs.Common.{◌≡◌, ◌∙◌, ◌&&◌, eqb, true, false, length, sym, ap, rules}
+use Rattle.std.proofs.Common.{◌≡◌, ◌≢◌, ◌∙◌, ◌&&◌, Bool, eqb, true, false, length, refl, sym, ap, rules}
 use mathlib.Core.Path.{ap₂}
 use Rattle.std.proofs.lemmas.Bool.{ne_eqb}
 use Rattle.std.proofs.lemmas.List.{length-map}
@@ -14,6 +14,14 @@ use Rattle.qtt_core_check.proofs.ArgumentLists.{size-side}
 use Rattle.qtt_core_check.proofs.Functions.{head-family, other-family}
 use Rattle.qtt_core_check.proofs.premises.Checker.family_args.Goals.{else-same_id-via-then-same_id+else-len-count, else-same_id-via-else-same_id}
 use Rattle.qtt_core_check.proofs.premises.Checker.family_args.Goals as goal
+
+no-first : (a b : Bool) → a ≡ false → (a && b) ≡ false
+no-first true b e = absurd (cc e)
+no-first false b e = refl
+
+no-second : (a b : Bool) → b ≡ false → (a && b) ≡ false
+no-second true b e = e
+no-second false b e = refl
 
 pub returns-then-len-count-clause-gives : goal.returns-then-len-count-clause-gives
 returns-then-len-count-clause-gives g c =
@@ -36,6 +44,9 @@ returns-in-Done-Fam-default-clause-gives g c =
     let d : term f.field-0 ≡ Fam f.found (side_by_side (terms ts)) = ap term f.field-0-is ∙ search (rules, the_lemmas) in
     let z : size (side_by_side (terms ts)) ≡ length ts = size-side (terms ts) ∙ length-map ts term in
     let s : (same_id c.args.id f.found && eqb (length ts) c.args.count) ≡ false =
-    elim c.else-same_id.branch [ else-same_id-via-then-same_id+else-len-count w ↦ ? | else-same_id-via-else-same_id w ↦ ? ] in
+    elim c.else-same_id.branch [
+      else-same_id-via-then-same_id+else-len-count w ↦ let n : length ts ≢ c.args.count = search rules in no-second _ _ (ne_eqb (length ts) c.args.count n)
+    | else-same_id-via-else-same_id w ↦ let n : same_id c.args.id f.found ≡ false = search rules in no-first _ _ n
+    ] in
     other-family (ctx c.args.scope.now) c.args.id f.found c.args.count (term c.args.ty.now) (term f.field-0) f.field-1 (side_by_side (terms ts)) (at c.args.premise.0 c.args.premise.1) e d
     (ap (λ n. same_id c.args.id f.found && eqb n c.args.count) z ∙ s)
