@@ -27,5 +27,3 @@ pub mod Families
 pub mod Matches
 pub mod ArgumentRows
 pub mod Places
-pub mod Applied
-pub mod CaseRows

@@ -3,7 +3,6 @@
 
 mod filling;
 pub mod judged;
-pub mod judgement;
 pub mod laws;
 pub mod matching;
 pub mod named_rows;
