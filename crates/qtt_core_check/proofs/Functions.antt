@@ -1,11 +1,16 @@
--- The end of the rule of functions, by whether the use of the binder fits.
-use Rattle.std.proofs.Common.{◌≡◌, ℕ, Bool, true, false, ◌||◌, ◌&&◌, cond, List, ◌∷◌, refl, sym, ◌∙◌, subst}
+-- The end of the rule of functions, by whether the use of the binder fits; and families that heads are.
+use Rattle.std.proofs.Common.{◌≡◌, ℕ, Bool, true, false, ◌||◌, ◌&&◌, cond, eqb, List, ◌∷◌, length, refl, ap, sym, ◌∙◌, subst}
+use mathlib.Core.Path.{ap₂}
+use Rattle.std.proofs.lemmas.Bool.{eq-eqb}
+use Rattle.qtt_base.specs.declared.place.GlobalId.{GlobalId}
 use Rattle.qtt_usage.specs.declared.mult.Mult.{Mult}
 use Rattle.qtt_usage.specs.Mult.{fits}
-use Rattle.qtt_term.specs.Term.{Term, Pi}
+use Rattle.qtt_term.specs.Term.{Term, Terms, size, Pi, Fam, same_id}
 use Rattle.qtt_term.specs.Signature.{Env}
-use Rattle.qtt_term.specs.Judgement.{Part}
-use Rattle.qtt_term.specs.Infer.{inferred, at, is_dead, unbound}
+use Rattle.qtt_term.specs.Question as question
+use Rattle.qtt_term.specs.Ask.{Ask, Question, Ending, within, on_head}
+use Rattle.qtt_term.specs.Judgement.{Ctx, Part}
+use Rattle.qtt_term.specs.Infer.{Premise, inferred, at, is_dead, unbound, as_family, family_of}
 use Rattle.qtt_term.specs.declared.rule.Rule.TheVariants as rule
 use Rattle.qtt_core_check.specs.Seen.{Reaches, Fails, fitting, lam_ends}
 use Rattle.qtt_core_check.proofs.Within.{on, on_done, fails_here, holds, unmet}
@@ -31,3 +36,22 @@ lam-fit {E} {n} Part.run q A b B u us ws e f =
     (on _ (on _ (holds _ _ (test-is (is_dead b) (fits u q) ∙ f)) on_done) on_done)
 lam-fit {E} {n} Part.erased q A b B u us ws e f =
     subst (λ ws. Reaches E n (lam_ends Part.erased q A b (inferred B ws)) (inferred (Pi q A B) us)) (sym e) (on _ on_done on_done)
+
+-- ---- families
+pub head-family : {E : Env} {n : ℕ} (Γ : Ctx) (f g : GlobalId) (k : ℕ) (A h : Term) (made : ℕ) (ts : Terms) (r : Premise) → question.head E n A ≡ question.Head.done h made →
+    h ≡ Fam g ts → same_id f g ≡ true → size ts ≡ k → Reaches E n (family_of Γ f k A r) ts
+unfolding within on_head family_of
+head-family {E} {n} Γ f g k A h made ts r e d s z = record {
+  is =
+      ap (λ H. on_head H (λ h. within E n (as_family f k h r)) (Ending.spent tt (Question.head_of (length Γ) A))) e ∙ ap (λ h. within E n (as_family f k h r)) d
+      ∙ ap (λ b. within E n (cond b (Ask.done ts) (Ask.fail r))) (ap₂ (λ a b. a && b) s (eq-eqb (size ts) k z));
+}
+
+pub other-family : {E : Env} {n : ℕ} (Γ : Ctx) (f g : GlobalId) (k : ℕ) (A h : Term) (made : ℕ) (ts : Terms) (r : Premise) → question.head E n A ≡ question.Head.done h made →
+    h ≡ Fam g ts → (same_id f g && eqb (size ts) k) ≡ false → Fails E n (family_of Γ f k A r) r
+unfolding within on_head family_of
+other-family {E} {n} Γ f g k A h made ts r e d s = record {
+  is =
+      ap (λ H. on_head H (λ h. within E n (as_family f k h r)) (Ending.spent tt (Question.head_of (length Γ) A))) e ∙ ap (λ h. within E n (as_family f k h r)) d
+      ∙ ap (λ b. within E n (cond b (Ask.done ts) (Ask.fail r))) s;
+}

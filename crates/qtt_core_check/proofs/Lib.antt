@@ -18,3 +18,12 @@ pub mod Within
 pub mod Variables
 pub mod Views
 pub mod Functions
+pub mod Binders
+pub mod Continuing
+pub mod ArgumentLists
+pub mod FormRows
+pub mod BranchLists
+pub mod Families
+pub mod Matches
+pub mod ArgumentRows
+pub mod Places

@@ -7,7 +7,7 @@ use Rattle.qtt_term.specs.View.{term}
 use Rattle.qtt_term.specs.Term.{Term}
 use Rattle.qtt_term.specs.Signature.{Tele}
 use Rattle.qtt_term.specs.Judgement.{Ctx, ext}
-use Rattle.qtt_core_check.specs.Seen.{tele}
+use Rattle.qtt_core_check.specs.Filled.{tele}
 use Rattle.qtt_core_check.proofs.Lists.{length-ext}
 
 ext-outer : (Γ : Ctx) (Θ : Tele) (i : ℕ) → length Θ ≤ i → slice_get (ext Γ Θ) i ≡ slice_get Γ (i - length Θ)
@@ -35,7 +35,7 @@ ext-inner : (Γ : Ctx) (Θ : Tele) (i : ℕ) (d : Mult × Term) → i < length �
 ext-inner Γ [] i d h = absurd (omega arith)
 ext-inner Γ (b ∷ Θ) i d h = inner-step Γ b Θ i d h (λ k. ext-inner (b ∷ Γ) Θ i d k)
 
-length-tele : (bs : List (Mult × code.Term)) → length (tele bs) ≡ length bs
+pub length-tele : (bs : List (Mult × code.Term)) → length (tele bs) ≡ length bs
 length-tele [] = refl
 length-tele (b ∷ bs) = ap suc (length-tele bs)
 

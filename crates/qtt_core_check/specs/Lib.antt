@@ -1,5 +1,9 @@
 pub mod FirstSpent
+pub mod Filled
 pub mod Seen
+pub mod Signatures
+pub mod Constructors
+pub mod Cases
 pub mod WithUses
 pub mod Trapless
 pub mod SmallSorts

@@ -1,26 +1,23 @@
 -- What the values of the code stand for.
-use Rattle.std.specs.Prelude.{◌≡◌, ℕ, List, [], ◌∷◌, Bool, true, ◌||◌, map, Result, MatchResult}
+use Rattle.std.specs.Prelude.{◌≡◌, ℕ, List, [], ◌∷◌, Bool, true, ◌||◌, Result, MatchResult}
 use Rattle.qtt_usage.specs.declared.mult.Mult.{Mult}
-use Rattle.qtt_term.specs.declared.term.Term as code
 use Rattle.qtt_term.specs.declared.convert.Question as code_question
 use Rattle.qtt_term.specs.declared.convert.Question.TheVariants as asked
 use Rattle.qtt_term.specs.View.{term}
-use Rattle.qtt_term.specs.Signature.{Tele, Env}
+use Rattle.qtt_term.specs.Signature.{Env}
 use Rattle.qtt_usage.specs.Mult.{fits}
 use Rattle.qtt_term.specs.Term.{Term, Pi}
 use Rattle.qtt_term.specs.declared.rule.Rule.TheVariants as rule
 use Rattle.qtt_term.specs.Judgement.{Ctx, ext, Part}
 use Rattle.qtt_term.specs.Ask.{Ask, ◌>>=◌, Question, Ending, within}
 use Rattle.qtt_term.specs.Infer.{Asks, Premise, at, Function, Inferred, inferred, is_dead, unbound}
+use Rattle.qtt_core_check.specs.Filled.{tele}
 use Rattle.qtt_core_check.specs.declared.judged.Judged.{Judged}
 use Rattle.qtt_core_check.specs.declared.premises.FunctionType.{FunctionType}
 use Rattle.qtt_core_check.specs.declared.scope.Scope.{Scope}
 use Rattle.qtt_core_check.specs.declared.scope.Scope.TheVariants as scope
 use Rattle.qtt_core_check.specs.declared.refusal.CoreRefusal.{CoreRefusal}
 use Rattle.qtt_core_check.specs.declared.refusal.CoreRefusal.TheVariants as refusal
-
-abbrev pub tele : List (Mult × code.Term) → Tele
-tele bs = map (λ b. (b.0, term b.1)) bs
 
 abbrev pub ctx : Scope → Ctx
 ctx scope.Empty = []

@@ -1,9 +1,14 @@
 //! The core judgement, and its laws.
 #![tactic(auto)]
 
+mod filling;
 pub mod judged;
 pub mod laws;
+pub mod matching;
+pub mod named_rows;
 pub mod premises;
 pub mod refusal;
 pub mod rows;
 pub mod scope;
+pub mod signatures;
+mod telescopes;

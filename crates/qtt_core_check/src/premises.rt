@@ -1,17 +1,20 @@
 //! Premises of the rules.
 
-ghost use Rattle.std.specs.Prelude.{◌≡◌, ◌<◌, IfOk, length};
+ghost use Rattle.std.specs.Prelude.{◌≡◌, ◌+◌, ◌<◌, IfOk, MatchResult, length};
 ghost use Rattle.qtt_usage.specs.Mult.{same_mult};
 ghost use Rattle.qtt_term.specs.View.{term};
 ghost use Rattle.qtt_term.specs.Globals.{env};
 ghost use Rattle.qtt_term.specs.Contexts.{part};
 ghost use Rattle.qtt_term.specs.Judgement.{under};
-ghost use Rattle.qtt_term.specs.Infer.{at, usable, use_at, agree, sort_of, function_of};
+ghost use Rattle.qtt_term.specs.Infer.{at, usable, use_at, agree, sort_of, function_of, family_of};
+ghost use Rattle.qtt_term.specs.Term.{same_id};
+ghost use Rattle.qtt_term.specs.View.{terms, side_by_side};
 ghost use Rattle.qtt_core_check.specs.Seen.{ctx, Gives, function};
+ghost use Rattle.qtt_core_check.specs.declared.refusal.CoreRefusal.TheVariants.{Memory};
 
 use crate::refusal::CoreRefusal;
 use crate::scope::Scope;
-use qtt_base::MemoryError;
+use qtt_base::{GlobalId, MemoryError};
 use qtt_term::{Answer, Converter, Globals, Head, Question, Rule, Sigma, Term};
 use qtt_usage::mult::Mult;
 use qtt_usage::usage::{Usage, UsageError};
@@ -59,6 +62,22 @@ pub fn same_mult(one: Mult, other: Mult) -> bool
     match (one, other) {
         (Mult::Zero, Mult::Zero) | (Mult::One, Mult::One) | (Mult::Many, Mult::Many) => true,
         _ => false,
+    }
+}
+
+fn same_id(one: GlobalId, other: GlobalId) -> bool
+    ensures { result ≡ same_id one other }
+{
+    one.module.0 == other.module.0 && one.item == other.item
+}
+
+/// The sum of two numbers of components.
+pub fn sum(one: usize, other: usize) -> Result<usize, CoreRefusal>
+    ensures { MatchResult result (λ n. n ≡ one + other) (λ e. e ≡ Memory) }
+{
+    match one.checked_add(other) {
+        Some(count) => Ok(count),
+        None => Err(CoreRefusal::Memory),
     }
 }
 
@@ -146,6 +165,35 @@ impl<'a, C: Converter> Checker<'a, C> {
                 codomain: Box::into_inner(codomain),
             }),
             Head::Done(_, _) => Err(CoreRefusal::Fails(rule, number)),
+            Head::Spent => Err(CoreRefusal::Spent(Question::Head(depth, ty.copy(self.alloc)?))),
+        }
+    }
+    /// The head of a type is this family at so many components.
+    #[tactic(auto, unfolding(qtt_term::specs::Ask::within, qtt_term::specs::Ask::on_head, qtt_term::specs::Infer::family_of))]
+    pub fn family_args(
+        &self,
+        scope: &Scope<'_>,
+        id: GlobalId,
+        count: usize,
+        ty: &Term,
+        premise: (Rule, u8),
+    ) -> Result<Vec<Term>, CoreRefusal>
+        ensures gives { Gives (env self.now.globals.now) self.now.budget (family_of (ctx scope.now) id count (term ty.now) (at premise.0 premise.1)) (λ v. side_by_side (terms v.items)) result }
+        ensures len { IfOk result (λ v. length v.items ≡ count) }
+    {
+        let depth = scope.depth()?;
+        match self
+            .converter
+            .head(self.alloc, self.budget, self.globals, ty)?
+        {
+            Head::Done(Term::Fam(found, args), _) => {
+                if same_id(id, found) && args.len() == count {
+                    Ok(args)
+                } else {
+                    Err(CoreRefusal::Fails(premise.0, premise.1))
+                }
+            }
+            Head::Done(_, _) => Err(CoreRefusal::Fails(premise.0, premise.1)),
             Head::Spent => Err(CoreRefusal::Spent(Question::Head(depth, ty.copy(self.alloc)?))),
         }
     }
