@@ -162,10 +162,10 @@ case_term q f ps m P bs s = node (Form.case q f (length ps) m (map (λ b. b.0) b
 case-begins : (E : Env) (p : Part) (Γ : Ctx) (q : Mult) (f : GlobalId) (ps : List Term) (m : ℕ) (P s : Term) (bs : List (ℕ × Term)) →
     infer E p Γ (case_term q f ps m P bs s)
     ≡ case_need E p q f (length ps) m (map (λ b. b.0) bs)
-      >>= (λ x. case_params E p Γ (record { mult = q; id = f; family = fam_at E f }) (fam_at E f).params closed (case_parts ps P bs s))
+    >>= (λ x. case_params E p Γ (record { mult = q; id = f; family = fam_at E f }) (fam_at E f).params closed (case_parts ps P bs s))
 case-begins E p Γ q f ps m P s bs =
     ap (λ b. need (is_there (E.family f) && (usable p q && b)) (at rule.Case 1)
-      >>= (λ x. case_params E p Γ (record { mult = q; id = f; family = fam_at E f }) (fam_at E f).params closed (case_parts ps P bs s)))
+    >>= (λ x. case_params E p Γ (record { mult = q; id = f; family = fam_at E f }) (fam_at E f).params closed (case_parts ps P bs s)))
     (and-true (eqb (length ps) (length (fam_at E f).params)) (eqb m (length (fam_at E f).motive)) (same_counts (map (λ b. b.0) bs) (field_counts (fam_at E f).constructors)) _
     (eq-eqb _ _ (size-case ps P s bs)))
 
@@ -181,17 +181,17 @@ pub case-asks : (E : Env) (p : Part) (Γ : Ctx) (q : Mult) (f : GlobalId) (ps : 
     length ps ≡ length S.params → length bs ≡ length S.constructors →
     infer E p Γ (case_term q f ps m P bs s)
     ≡ case_need E p q f (length ps) m (map (λ b. b.0) bs) >>= (λ x.
-      arguments E Part.erased Γ (wanted (at rule.Case 2) (erase_binds S.params)) closed (side_by_side ps) >>= (λ u.
-      motive_asks E p Γ (record { mult = q; id = f; family = S }) (push (side_by_side ps) closed) P >>= (λ l.
-      branches_ask E p Γ (record { mult = q; id = f; family = S }) (push (side_by_side ps) closed) P S.constructors (map (λ b. b.1) bs) None >>= (λ J.
-      infer E (under p q) Γ s >>= (λ j. scrutinee_asks Γ (record { mult = q; id = f; family = S }) (push (side_by_side ps) closed) P s J j)))))
+    arguments E Part.erased Γ (wanted (at rule.Case 2) (erase_binds S.params)) closed (side_by_side ps) >>= (λ u.
+    motive_asks E p Γ (record { mult = q; id = f; family = S }) (push (side_by_side ps) closed) P >>= (λ l.
+    branches_ask E p Γ (record { mult = q; id = f; family = S }) (push (side_by_side ps) closed) P S.constructors (map (λ b. b.1) bs) None >>= (λ J.
+    infer E (under p q) Γ s >>= (λ j. scrutinee_asks Γ (record { mult = q; id = f; family = S }) (push (side_by_side ps) closed) P s J j)))))
 case-asks E p Γ q f ps m P s bs S same k l =
     case-begins E p Γ q f ps m P s bs
     ∙ ap (λ S. case_need E p q f (length ps) m (map (λ b. b.0) bs) >>= (λ x. case_params E p Γ (record { mult = q; id = f; family = S }) S.params closed (case_parts ps P bs s))) same
     ∙ bind-along (case_need E p q f (length ps) m (map (λ b. b.0) bs)) _ _ (λ x.
-      params-ask E p Γ (record { mult = q; id = f; family = S }) S.params closed ps (P ▸ (side_by_side (map (λ b. b.1) bs) +++ (s ▸ ε))) k
-      ∙ bind-along (arguments E Part.erased Γ (wanted (at rule.Case 2) (erase_binds S.params)) closed (side_by_side ps)) _ _ (λ u.
-        bind-along (motive_asks E p Γ (record { mult = q; id = f; family = S }) (push (side_by_side ps) closed) P) _ _ (λ i.
-        branches-ask E p Γ (record { mult = q; id = f; family = S }) (push (side_by_side ps) closed) P S.constructors (map (λ b. b.1) bs) s None (length-map bs (λ b. b.1) ∙ l)
-        ∙ bind-along (branches_ask E p Γ (record { mult = q; id = f; family = S }) (push (side_by_side ps) closed) P S.constructors (map (λ b. b.1) bs) None) _ _ (λ J.
-          scrutinee-asks E p Γ (record { mult = q; id = f; family = S }) (push (side_by_side ps) closed) P s J))))
+    params-ask E p Γ (record { mult = q; id = f; family = S }) S.params closed ps (P ▸ (side_by_side (map (λ b. b.1) bs) +++ (s ▸ ε))) k
+    ∙ bind-along (arguments E Part.erased Γ (wanted (at rule.Case 2) (erase_binds S.params)) closed (side_by_side ps)) _ _ (λ u.
+    bind-along (motive_asks E p Γ (record { mult = q; id = f; family = S }) (push (side_by_side ps) closed) P) _ _ (λ i.
+    branches-ask E p Γ (record { mult = q; id = f; family = S }) (push (side_by_side ps) closed) P S.constructors (map (λ b. b.1) bs) s None (length-map bs (λ b. b.1) ∙ l)
+    ∙ bind-along (branches_ask E p Γ (record { mult = q; id = f; family = S }) (push (side_by_side ps) closed) P S.constructors (map (λ b. b.1) bs) None) _ _ (λ J.
+    scrutinee-asks E p Γ (record { mult = q; id = f; family = S }) (push (side_by_side ps) closed) P s J))))

@@ -159,18 +159,20 @@ pub fit-next : (bs : List (Mult × code.Term)) (b : Mult × code.Term) (k : ℕ)
     b ≡ get_or bs (length bs - 1 - k) b → us ≡ u ∷ ws → us ≡ drop k all → more ≡ (fit && fits u b.0) →
     (fit && binders_fit (mults_onto [] (tele (take (length bs - k) bs))) us) ≡ G →
     ((more && binders_fit (mults_onto [] (tele (take (length bs - (k + 1)) bs))) ws) ≡ G) × (ws ≡ drop (k + 1) all)
-fit-next bs b k us ws all u fit more G h e d a m so =
-    (ap (λ x. x && binders_fit (mults_onto [] (tele (take (length bs - (k + 1)) bs))) ws) m
-    ∙ and-assoc fit (fits u b.0) (binders_fit (mults_onto [] (tele (take (length bs - (k + 1)) bs))) ws)
-    ∙ ap₂ (λ qs us. fit && binders_fit qs us) (sym (newest-binder bs b k h e)) (sym d) ∙ so,
-    drop-next k all ws u (sym d ∙ a))
+fit-next bs b k us ws all u fit more G h e d a m so = (
+  ap (λ x. x && binders_fit (mults_onto [] (tele (take (length bs - (k + 1)) bs))) ws) m
+      ∙ and-assoc fit (fits u b.0) (binders_fit (mults_onto [] (tele (take (length bs - (k + 1)) bs))) ws)
+      ∙ ap₂ (λ qs us. fit && binders_fit qs us) (sym (newest-binder bs b k h e)) (sym d) ∙ so,
+  drop-next k all ws u (sym d ∙ a),
+)
 
 pub fit-all : (bs : List (Mult × code.Term)) (k : ℕ) (us all : List Mult) (fit G : Bool) → k ≡ length bs → us ≡ drop k all →
     (fit && binders_fit (mults_onto [] (tele (take (length bs - k) bs))) us) ≡ G → (fit ≡ G) × (us ≡ drop (length (tele bs)) all)
 fit-all bs k us all fit G e d so =
-    let z : length bs - k ≡ 0 = omega arith in
-    (sym (and-true fit) ∙ ap (λ n. fit && binders_fit (mults_onto [] (tele (take n bs))) us) (sym z) ∙ so,
-    d ∙ ap (λ n. drop n all) (e ∙ sym (length-map bs (λ b. (b.0, term b.1)))))
+    let z : length bs - k ≡ 0 = omega arith in (
+      sym (and-true fit) ∙ ap (λ n. fit && binders_fit (mults_onto [] (tele (take n bs))) us) (sym z) ∙ so,
+      d ∙ ap (λ n. drop n all) (e ∙ sym (length-map bs (λ b. (b.0, term b.1)))),
+    )
   where
     and-true : (b : Bool) → (b && true) ≡ b
     and-true true = refl

@@ -151,11 +151,7 @@ impl<'a, C: Converter> Checker<'a, C> {
     }
 
     /// The type of the branch of a constructor, under its fields.
-    pub fn branch_type(
-        &self,
-        matching: &Matching<'_>,
-        place: usize,
-    ) -> Result<Term, CoreRefusal>
+    pub fn branch_type(&self, matching: &Matching<'_>, place: usize) -> Result<Term, CoreRefusal>
         requires { place < length matching.now.family.now.constructors.items }
         ensures { (d : ConSig) → slice_get (case_of matching.now).family.constructors place ≡ Some d → MatchResult result (λ t. term t ≡ type_of_branch (params_of matching.now) d (motive_of matching.now)) (λ e. e ≡ Memory) }
     {
@@ -194,11 +190,7 @@ impl<'a, C: Converter> Checker<'a, C> {
     }
 
     /// The family of a match at its parameters and these indices.
-    fn scrutinee_type(
-        &self,
-        matching: &Matching<'_>,
-        indices: &[Term],
-    ) -> Result<Term, CoreRefusal>
+    fn scrutinee_type(&self, matching: &Matching<'_>, indices: &[Term]) -> Result<Term, CoreRefusal>
         ensures { MatchResult result (λ t. term t ≡ sub (push (side_by_side (terms indices.now)) (params_of matching.now)) (case_of matching.now).family.self) (λ e. e ≡ Memory) }
     {
         let params = copy_all(self.alloc, matching.params)?;

@@ -96,12 +96,7 @@ impl<'a, C: Converter> Checker<'a, C> {
     }
 
     /// The type at these values, and the uses of the arguments.
-    pub fn applied(
-        &self,
-        ty: &Term,
-        values: &[Term],
-        uses: Usage,
-    ) -> Result<Judged, CoreRefusal>
+    pub fn applied(&self, ty: &Term, values: &[Term], uses: Usage) -> Result<Judged, CoreRefusal>
         ensures gives { MatchResult result (λ j. judged j ≡ inferred (sub (filled values.now) (term ty.now)) uses) (λ e. e ≡ Memory) }
         ensures len { IfOk result (λ j. length j.uses ≡ length uses) }
     {
@@ -112,11 +107,7 @@ impl<'a, C: Converter> Checker<'a, C> {
     }
 
     /// The signature of a family that is there, of so many parameters and indices.
-    pub fn family_signature(
-        &self,
-        id: GlobalId,
-        count: usize,
-    ) -> Result<Signature, CoreRefusal>
+    pub fn family_signature(&self, id: GlobalId, count: usize) -> Result<Signature, CoreRefusal>
         ensures gives { Gives (env self.now.globals.now) self.now.budget (need (is_there ((env self.now.globals.now).family id) && eqb count (length (family_wants (fam_at (env self.now.globals.now) id)))) (at Rule.Fam 1)) (λ s. tt) result }
         ensures arguments { IfOk result (λ s. tele s.arguments.items ≡ erase_binds ((fam_at (env self.now.globals.now) id).params ++ (fam_at (env self.now.globals.now) id).indices)) }
         ensures ty { IfOk result (λ s. term s.ty ≡ Sort (fam_at (env self.now.globals.now) id).level) }
@@ -134,12 +125,7 @@ impl<'a, C: Converter> Checker<'a, C> {
     }
 
     /// What a constructor that is there asks, of so many parameters and fields.
-    pub fn constructor(
-        &self,
-        con: ConId,
-        params: usize,
-        fields: usize,
-    ) -> Result<Made, CoreRefusal>
+    pub fn constructor(&self, con: ConId, params: usize, fields: usize) -> Result<Made, CoreRefusal>
         ensures gives { Gives (env self.now.globals.now) self.now.budget (need (made_shaped (fam_at (env self.now.globals.now) con.family) con.place params (params + fields)) (at Rule.Con 1)) (λ m. tt) result }
         ensures made { IfOk result (λ m. IsMade (fam_at (env self.now.globals.now) con.family) con.place m) }
         ensures params { IfOk result (λ m. length m.params.items ≡ params) }
@@ -165,11 +151,7 @@ impl<'a, C: Converter> Checker<'a, C> {
     }
 
     /// The signature of a primitive of so many arguments.
-    pub fn prim_signature(
-        &self,
-        prim: Primitive,
-        count: usize,
-    ) -> Result<Signature, CoreRefusal>
+    pub fn prim_signature(&self, prim: Primitive, count: usize) -> Result<Signature, CoreRefusal>
         ensures gives { Gives (env self.now.globals.now) self.now.budget (need (eqb count (length (prim_signature prim).arguments)) (at Rule.Prim 1)) (λ s. tt) result }
         ensures signature { IfOk result (λ s. signature s ≡ prim_signature prim) }
         ensures len { IfOk result (λ s. length s.arguments.items ≡ count) }

@@ -57,7 +57,10 @@ pub fn primitive_signature(alloc: Global, prim: Primitive) -> Result<Signature, 
         | Primitive::SubInt
         | Primitive::MulInt
         | Primitive::DivInt
-        | Primitive::ModInt => (vec![in alloc; (many, Term::IntTy), (many, Term::IntTy)]?, Term::IntTy),
+        | Primitive::ModInt => (
+            vec![in alloc; (many, Term::IntTy), (many, Term::IntTy)]?,
+            Term::IntTy,
+        ),
         Primitive::EqInt | Primitive::LtInt => (
             vec![in alloc; (many, Term::IntTy), (many, Term::IntTy)]?,
             plain_type(alloc, 4),
@@ -96,7 +99,7 @@ fn bind_signature(alloc: Global, from: IoKind, to: IoKind) -> Result<Signature, 
         (Mult::Zero, Term::Sort(0)),
         (Mult::Zero, Term::Sort(0)),
         (Mult::One, first),
-        (Mult::One, next)
+        (Mult::One, next),
     ]?;
     let ty = io_type(alloc, to, Term::Var(2))?;
     Ok(Signature { arguments, ty })

@@ -147,10 +147,7 @@ fn push_indices(
 
 /// Parameters and indices, erased.
 #[tactic(auto, using(crate::proofs::Binders::binders))]
-pub(crate) fn family_binders(
-    alloc: Global,
-    family: &Family,
-) -> Result<Vec<(Mult, Term)>, TermError>
+pub(crate) fn family_binders(alloc: Global, family: &Family) -> Result<Vec<(Mult, Term)>, TermError>
     ensures { IfOk result (λ v. tele v.items ≡ erase_binds ((family_of family.now).params ++ index_tele 0 (family_of family.now).indices)) }
 {
     let params = parameter_binders(alloc, family)?;

@@ -45,8 +45,8 @@ returns-in-Done-Fam-default-clause-gives g c =
     let z : size (side_by_side (terms ts)) ≡ length ts = size-side (terms ts) ∙ length-map ts term in
     let s : (same_id c.args.id f.found && eqb (length ts) c.args.count) ≡ false =
     elim c.else-same_id.branch [
-      else-same_id-via-then-same_id+else-len-count w ↦ let n : length ts ≢ c.args.count = search rules in no-second _ _ (ne_eqb (length ts) c.args.count n)
-    | else-same_id-via-else-same_id w ↦ let n : same_id c.args.id f.found ≡ false = search rules in no-first _ _ n
+      | else-same_id-via-then-same_id+else-len-count w ↦ let n : length ts ≢ c.args.count = search rules in no-second _ _ (ne_eqb (length ts) c.args.count n)
+      | else-same_id-via-else-same_id w ↦ let n : same_id c.args.id f.found ≡ false = search rules in no-first _ _ n
     ] in
     other-family (ctx c.args.scope.now) c.args.id f.found c.args.count (term c.args.ty.now) (term f.field-0) f.field-1 (side_by_side (terms ts)) (at c.args.premise.0 c.args.premise.1) e d
     (ap (λ n. same_id c.args.id f.found && eqb n c.args.count) z ∙ s)
