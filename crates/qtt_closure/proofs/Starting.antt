@@ -29,7 +29,7 @@ holds-append P n [] Gs h = (tt, h)
 holds-append P n (F ∷ Fs) Gs h = let p = holds-append P (suc n) Fs Gs h.1 in ((h.0, p.0), p.1)
 
 mutual
-  after-from : (t : Lean) (n : ℕ) → after n t ≡ n + after 0 t
+  pub after-from : (t : Lean) (n : ℕ) → after n t ≡ n + after 0 t
   after-from (Tree.var i) n = omega arith
   after-from (Tree.node (Operator.function a) ts) n = let h = afters-from ts (suc n) in let k = afters-from ts 1 in omega (arith, h, k)
   after-from (Tree.node F ts) n = afters-from ts n
@@ -61,7 +61,7 @@ both-after ts n k ns Γ h g =
     ∙ (let w = waited-all ts (afters n (skip k ts)) k in let p = afters-from (skip k ts) n in let q = afters-from ts n in omega (arith, w, p, q))
 
 mutual
-  number-after : (t : Lean) (n : ℕ) (Γ : Slots) → advance n (functions n Γ t) ≡ after n t
+  pub number-after : (t : Lean) (n : ℕ) (Γ : Slots) → advance n (functions n Γ t) ≡ after n t
   number-after (Tree.var i) n Γ = refl
   number-after (Tree.node (Operator.function a) ts) n Γ =
       let Δ : Slots = captures 0 (Tree.node (Operator.function a) ts) Γ in
@@ -114,25 +114,25 @@ or-either : (a b : Bool) → (a || b) ≡ true → (a ≡ true) ⊎ (b ≡ true)
 or-either true b e = inl refl
 or-either false b e = inr e
 
-shifted : (k i : ℕ) → shift k i ≡ k + i
+pub shifted : (k i : ℕ) → shift k i ≡ k + i
 shifted zero i = omega arith
 shifted (suc k) i = let p = shifted k i in omega arith
 
-shift-suc : (n i : ℕ) → shift (suc n) i ≡ shift n (suc i)
+pub shift-suc : (n i : ℕ) → shift (suc n) i ≡ shift n (suc i)
 shift-suc zero i = refl
 shift-suc (suc n) i = ap suc (shift-suc n i)
 
-abbrev Mentioned : Lean → ℕ → Type 0
+abbrev pub Mentioned : Lean → ℕ → Type 0
 Mentioned t i = mentions i t ≡ true
 
-abbrev AnyMentioned : List ℕ → Leans → ℕ → Type 0
+abbrev pub AnyMentioned : List ℕ → Leans → ℕ → Type 0
 AnyMentioned ns ts i = any_mentions ns i ts ≡ true
 
 -- what is mentioned of a frame is in it
-abbrev Scoped : Slots → Lean → Type 0
+abbrev pub Scoped : Slots → Lean → Type 0
 Scoped Γ t = (i : ℕ) → Mentioned t i → IsFilled (slot_at Γ i)
 
-abbrev AllScoped : Slots → List ℕ → Leans → Type 0
+abbrev pub AllScoped : Slots → List ℕ → Leans → Type 0
 AllScoped Γ ns ts = (i : ℕ) → AnyMentioned ns ts i → IsFilled (slot_at Γ i)
 
 scoped-bound : (k : ℕ) (Γ : Slots) (t : Lean) → ((i : ℕ) → Mentioned t (shift k i) → IsFilled (slot_at Γ i)) → Scoped (bound k Γ) t
@@ -143,10 +143,10 @@ scoped-bound (suc k) Γ t h = scoped-bound k (Slot.filled ∷ Γ) t go
     go zero e = tt
     go (suc i) e = h i (ap (λ j. mentions j t) (shift-suc k i) ∙ e)
 
-scoped-first : (Γ : Slots) (ns : List ℕ) (t : Lean) (ts : Leans) → AllScoped Γ ns (t ◂ ts) → Scoped (bound (first ns) Γ) t
+pub scoped-first : (Γ : Slots) (ns : List ℕ) (t : Lean) (ts : Leans) → AllScoped Γ ns (t ◂ ts) → Scoped (bound (first ns) Γ) t
 scoped-first Γ ns t ts h = scoped-bound (first ns) Γ t (λ i e. h i (or-left (mentions (shift (first ns) i) t) (any_mentions (rest ns) i ts) e))
 
-scoped-rest : (Γ : Slots) (ns : List ℕ) (t : Lean) (ts : Leans) → AllScoped Γ ns (t ◂ ts) → AllScoped Γ (rest ns) ts
+pub scoped-rest : (Γ : Slots) (ns : List ℕ) (t : Lean) (ts : Leans) → AllScoped Γ ns (t ◂ ts) → AllScoped Γ (rest ns) ts
 scoped-rest Γ ns t ts h i e = h i (or-right (mentions (shift (first ns) i) t) (any_mentions (rest ns) i ts) e)
 
 captured-slot : (j : ℕ) (t : Lean) (Γ : Slots) (i : ℕ) → Mentioned t (shift i j) → IsFilled (slot_at Γ i) → IsFilled (slot_at (captures j t Γ) i)
@@ -159,7 +159,7 @@ shift-none zero = refl
 shift-none (suc i) = ap suc (shift-none i)
 
 -- what is mentioned and in the surrounding frame is captured
-captured-mentioned : (t : Lean) (Γ : Slots) → Scoped Γ t → Scoped (captures 0 t Γ) t
+pub captured-mentioned : (t : Lean) (Γ : Slots) → Scoped Γ t → Scoped (captures 0 t Γ) t
 captured-mentioned t Γ h i e = captured-slot 0 t Γ i (ap (λ j. mentions j t) (shift-none i) ∙ e) (h i e)
 
 -- ---- substitutions that agree at what is mentioned
@@ -209,7 +209,7 @@ mutual
 
 -- what is mentioned of a term with all variables below n is below n
 mutual
-  mentioned-below : (t : Lean) (n i : ℕ) → Below lean.binders n t → Mentioned t i → i < n
+  pub mentioned-below : (t : Lean) (n i : ℕ) → Below lean.binders n t → Mentioned t i → i < n
   mentioned-below (Tree.var j) n i b e = let p = eqb-true i j e in subst (λ k. k < n) (sym p) b
   mentioned-below (Tree.node F ts) n i b e = any-below ts (lean.binders F) n i b e
 
@@ -230,7 +230,7 @@ place-bound (suc k) Γ = place-bound k (Slot.filled ∷ Γ) ∙ ap (lifts_ren k)
     go zero = refl
     go (suc i) = refl
 
-place-below : (Δ : Slots) (i : ℕ) → IsFilled (slot_at Δ i) → place_at Δ i < places Δ
+pub place-below : (Δ : Slots) (i : ℕ) → IsFilled (slot_at Δ i) → place_at Δ i < places Δ
 place-below [] i u = absurd u
 place-below (Slot.gone ∷ Δ) zero u = absurd u
 place-below (Slot.blank ∷ Δ) zero u = absurd u
@@ -244,7 +244,7 @@ module _ {A : Type 0} where
   one-moved ∅ v vs = refl
   one-moved (u ◂ us) v vs = ap (λ ws. u ◂ ws) (one-moved us v vs)
 
-  captured-append : (Δ : Slots) (place : ℕ → ℕ) (vs : Codes A) → captured Δ place vs ≡ captured Δ place ∅ ◂◂ vs
+  pub captured-append : (Δ : Slots) (place : ℕ → ℕ) (vs : Codes A) → captured Δ place vs ≡ captured Δ place ∅ ◂◂ vs
   captured-append [] place vs = refl
   captured-append (Slot.gone ∷ Δ) place vs = captured-append Δ (λ i. place (suc i)) vs
   captured-append (Slot.blank ∷ Δ) place vs =
@@ -279,7 +279,7 @@ module _ {A : Type 0} where
   captured-size (Slot.blank ∷ Δ) place vs = let p = captured-size Δ (λ i. place (suc i)) (Tree.var (place 0) ◂ vs) in omega arith
   captured-size (Slot.filled ∷ Δ) place vs = let p = captured-size Δ (λ i. place (suc i)) (Tree.var (place 0) ◂ vs) in omega arith
 
-captured-places : (A : Type 0) (Δ : Slots) (place : ℕ → ℕ) → size (captured {A = A} Δ place ∅) ≡ places Δ
+pub captured-places : (A : Type 0) (Δ : Slots) (place : ℕ → ℕ) → size (captured {A = A} Δ place ∅) ≡ places Δ
 captured-places A Δ place = let p = captured-size {A = A} Δ place ∅ in omega arith
 
 -- ---- a converted term

@@ -133,3 +133,7 @@ abbrev mutual
   waiting_functions n k ns Γ ∅ = []
   waiting_functions n zero ns Γ (t ◂ ts) = []
   waiting_functions n (suc k) ns Γ (t ◂ ts) = functions n (bound (first ns) Γ) t ++ waiting_functions (after n t) k (rest ns) Γ ts
+
+-- ---- a whole term's functions from number n on: its own, which captures and takes nothing, and then those in it
+abbrev pub conversion : ℕ → Lean → List Function
+conversion n t = record { captured = 0; takes = 0; body = flat (suc n) [] t } ∷ functions (suc n) [] t

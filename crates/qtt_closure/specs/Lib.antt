@@ -1,5 +1,9 @@
 pub mod Flat
 pub mod Conversion
 pub mod StandsFor
+pub mod View
+pub mod Scopes
+pub mod Marks
+pub mod Converted
 pub mod Laws
 pub mod Rows

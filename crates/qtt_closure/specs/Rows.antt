@@ -7,12 +7,12 @@ use Rattle.qtt_erase.specs.Lean.{Lean}
 use Rattle.qtt_erase.specs.Erasure.{erased_bodies}
 use Rattle.qtt_erase.specs.Programs.{vectors}
 use Rattle.qtt_closure.specs.Flat.{Function}
-use Rattle.qtt_closure.specs.Conversion.{closure_at, flat, functions}
+use Rattle.qtt_closure.specs.Conversion.{closure_at, conversion}
 
--- the functions of an erased body, its own as the first
+-- the functions of an erased body
 abbrev pub listed : Option Lean → List Function
 listed None = []
-listed (Some t) = record { captured = 0; takes = 0; body = flat 1 [] t } ∷ functions 1 [] t
+listed (Some t) = conversion 0 t
 
 pub record ConversionRows : Type 0 where
   pub identity_converted : listed (erased_bodies identity (item 0)) ≡

@@ -10,3 +10,6 @@ pub mod scope;
 
 pub use erasing::erase;
 pub use lean::{Lean, LeanBranch};
+
+#[cfg(test)]
+mod tests;

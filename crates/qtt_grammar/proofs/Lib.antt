@@ -6,3 +6,16 @@ pub mod Choices
 pub mod Inners
 pub mod Items
 pub mod Texts
+pub mod Prints
+pub mod Saying
+pub mod Formed
+pub mod Tokens
+pub mod Forms
+pub mod Shown
+pub mod Gives
+pub mod Allowed
+pub mod ShownPatterns
+pub mod ItemsAllowed
+pub mod ItemsShown
+pub mod Again
+pub mod TextForms

@@ -5,3 +5,6 @@ pub mod Grammar
 pub mod Readers
 pub mod Answer
 pub mod Examples
+pub mod Sketch
+pub mod Unplaced
+pub mod Spelled

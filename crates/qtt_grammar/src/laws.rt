@@ -1,13 +1,22 @@
 //! Laws of the grammar.
 
-ghost use Rattle.std.specs.Prelude.{◌≡◌, List, None};
+ghost use Rattle.std.specs.Prelude.{◌≡◌, List, None, map};
+ghost use Rattle.std.specs.Prelude.{ℕ};
+ghost use Rattle.qtt_lexer.specs.Forms as text;
+ghost use Rattle.qtt_lexer.specs.declared.token.Token.{Token};
+ghost use Rattle.qtt_layout.specs.Laws.{tokens_in, kept};
+ghost use Rattle.qtt_layout.specs.declared.laid.Laid.{Laid};
 ghost use Rattle.qtt_phrase.specs.Phrase.{FirstBad, Settles};
+ghost use Rattle.qtt_syntax.specs.Printing.{module_words};
 ghost use Rattle.qtt_syntax.specs.Tree.{Module};
 ghost use Rattle.qtt_grammar.specs.declared.class.Pass.{Pass};
 ghost use Rattle.qtt_grammar.specs.declared.stop.Excess.{Excess};
-ghost use Rattle.qtt_grammar.specs.Lexeme.{Lexeme};
+ghost use Rattle.qtt_grammar.specs.Lexeme.{Lexeme, lexemes};
 ghost use Rattle.qtt_grammar.specs.Grammar.{IsText};
 ghost use Rattle.qtt_grammar.specs.Answer.{HasAnswer};
+ghost use Rattle.qtt_grammar.specs.Sketch.{unplaced, sketched};
+ghost use Rattle.qtt_grammar.specs.Spelled.{HaveForms};
+ghost use Rattle.qtt_grammar.specs.Unplaced.{bare_module};
 
 /// Tokens are those of a module text, or they settle that a limit is passed, or they have a first bad
 /// token before which no limit is passed.
@@ -28,4 +37,15 @@ pub fn excesses_are_settled_once()
 /// There is one first bad token.
 pub fn first_bad_tokens_are_unique()
     ensures { (pass : Pass) (ls rest more : List Lexeme) → FirstBad (IsText pass) ls rest → FirstBad (IsText pass) ls more → rest ≡ more }
+{}
+
+/// The printed words of a text's tree, wherever they stand, are those of a text with the same tree
+/// but for places. So a tree that is read within the limits prints within them.
+pub fn printed_words_are_read_again()
+    ensures { (pass : Pass) (ls ms : List Lexeme) (t : Module) → HaveForms ls → IsText pass ls t None → map unplaced ms ≡ sketched (module_words t) → (u : Module) × IsText pass ms u None × (bare_module u ≡ bare_module t) }
+{}
+
+/// In the tokens of a text, laid out, each name has the form of its spelling.
+pub fn names_have_forms()
+    ensures { (bytes : List ℕ) (ts : List Token) (ms : List Laid) → text.IsText bytes ts → tokens_in ms ≡ kept ts → HaveForms (lexemes ms) }
 {}

@@ -14,3 +14,5 @@ pub mod Order
 pub mod Entries
 pub mod Constructors
 pub mod PrimGlobals
+pub mod Range
+pub mod Ranged

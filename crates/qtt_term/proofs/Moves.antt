@@ -8,7 +8,9 @@ use Rattle.qtt_usage.specs.declared.mult.Mult.{Mult}
 use Rattle.qtt_term.specs.declared.term.Term.{the_lemmas}
 use Rattle.qtt_term.specs.Term.{zeros, Term, Terms, var, ◌▸◌, ◌+++◌, Pi, Lam}
 use Rattle.qtt_term.specs.Substitution.{ren, rens, lift_ren, lifts_ren, sub, subs, lift, lifts, cons, push, shift}
-use Rattle.qtt_term.specs.Shift.{raised, ren_branch, sub_branch}
+use Rattle.qtt_term.specs.declared.substitution.Beyond.{Beyond}
+use Rattle.qtt_term.specs.declared.substitution.Beyond.TheVariants as beyond
+use Rattle.qtt_term.specs.Shift.{raised, ren_branch, sub_branch, term_beyond}
 use Rattle.qtt_term.specs.View.{side_by_side}
 use Rattle.qtt_term.proofs.Subst.{ren-is-sub, lifts-shift}
 
@@ -205,3 +207,7 @@ push-next v vs σ i d h below = by_place (nat_lt i (length vs)) refl
 pub push-below : (vs : List Term) (σ : ℕ → Term) (i : ℕ) (d : Term) → i < length vs → push (side_by_side vs) σ i ≡ get_or vs (length vs - 1 - i) d
 push-below [] σ i d h = absurd (omega arith)
 push-below (v ∷ vs) σ i d h = push-next v vs σ i d h (λ below. push-below vs (cons v σ) i d below)
+
+pub term_beyond-raised : (b : Beyond) (n i : ℕ) → ren (shift n) (term_beyond b i) ≡ term_beyond b (n + i)
+term_beyond-raised beyond.Kept n i = ap var (shift-add n i)
+term_beyond-raised beyond.Unbound n i = refl

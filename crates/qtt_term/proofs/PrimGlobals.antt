@@ -1,5 +1,5 @@
 -- The families of Prim, as they come into an environment.
-use Rattle.std.proofs.Common.{◌≡◌, ℕ, ◌<◌, ◌^◌, List, [], ◌∷◌, length, map, Option, Some, None, option_map, is_none, Bool, true, false, ◌&&◌, cond, eqb, refl, sym, ap, subst, ◌∙◌, arith, lit<}
+use Rattle.std.proofs.Common.{◌≡◌, ◌<◌, ◌^◌, List, [], ◌∷◌, length, Option, Some, None, option_map, is_none, Bool, true, false, ◌&&◌, cond, eqb, refl, sym, ap, ◌∙◌, arith, lit<}
 use Rattle.std.specs.List.{list_all}
 use Rattle.std.proofs.lemmas.List.{length-map}
 use Rattle.std.proofs.lemmas.Bool.Decides.{nat_tests}
@@ -8,7 +8,7 @@ use Rattle.qtt_base.specs.declared.place.GlobalId.{GlobalId}
 use Rattle.qtt_term.specs.declared.globals.Globals.{Globals}
 use Rattle.qtt_term.specs.declared.items.Family as code_family
 use Rattle.qtt_term.specs.Term.{same_id}
-use Rattle.qtt_term.specs.Signature.{Family, unit_id, bool_id, line_id, eq_id, unit_family, bool_family, line_family, eq_family}
+use Rattle.qtt_term.specs.Signature.{Family, bool_id, line_id, eq_id, bool_family, line_family, eq_family}
 use Rattle.qtt_term.specs.PrimEnvironment.{prim_env, prim_family}
 use Rattle.qtt_term.specs.Keyed.{with_id, inserted, ids_differ}
 use Rattle.qtt_term.specs.Items.{FamilyEntry, DefinitionEntry, family_entry, constructor_entry, family_id, definition_id, constructor_of, ids}

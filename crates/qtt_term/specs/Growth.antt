@@ -1,5 +1,5 @@
 -- What growth does to an environment, by the ids of its items.
-use Rattle.std.specs.Prelude.{◌≡◌, ◌⊎◌, List, Some, None, Option, option_map, cond, IsTrue}
+use Rattle.std.specs.Prelude.{◌≡◌, ◌⊎◌, List, Some, None, option_map, cond, IsTrue}
 use Rattle.qtt_base.specs.declared.place.GlobalId.{GlobalId}
 use Rattle.qtt_term.specs.Term.{Term, same_id}
 use Rattle.qtt_term.specs.Question.{either}

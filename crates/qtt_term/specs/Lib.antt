@@ -26,3 +26,4 @@ pub mod Keyed
 pub mod Places
 pub mod PrimItems
 pub mod Growth
+pub mod Literals

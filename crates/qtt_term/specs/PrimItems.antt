@@ -1,6 +1,6 @@
 -- The families of the module Prim, with their ids and names.
 use Rattle.std.specs.Prelude.{ℕ, List, [], ◌∷◌, codes}
-use Rattle.qtt_term.specs.Signature.{Constructor, Family, prim_id, unit_id, bool_id, line_id, eq_id, plain_constructor, unit_family, bool_family, line_family, eq_family, StringTy}
+use Rattle.qtt_term.specs.Signature.{Constructor, prim_id, unit_id, bool_id, line_id, eq_id, plain_constructor, unit_family, bool_family, line_family, eq_family, StringTy}
 use Rattle.qtt_term.specs.Term.{var, ε, ◌▸◌}
 use Rattle.qtt_usage.specs.Mult.{ω}
 use Rattle.qtt_term.specs.Items.{ConstructorEntry, FamilyEntry}

@@ -1,6 +1,7 @@
 //! Laws of the definitions. Each function does nothing: its contract is the law.
 
 ghost use Rattle.qtt_term.specs.Growth.{EnvironmentsGrow};
+ghost use Rattle.qtt_term.specs.Literals.{StepsKeepRange};
 ghost use Rattle.qtt_term.specs.Laws.{SubstitutionLaws, ValuesAreKept, FullStepsContract, StepsKeepClosed, TapesAreOfEvents};
 
 /// Simultaneous substitutions compose, keep what they do not mention, and commute with renaming.
@@ -31,4 +32,9 @@ pub fn tapes_are_of_events()
 /// An environment that grows has its new items at their ids, and the others as before.
 pub fn environments_grow()
     ensures { EnvironmentsGrow }
+{}
+
+/// No contraction brings in a literal that is out of the range of 64 bits.
+pub fn steps_keep_range()
+    ensures { StepsKeepRange }
 {}

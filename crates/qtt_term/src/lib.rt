@@ -10,6 +10,7 @@ pub mod globals;
 pub mod items;
 mod keyed;
 pub mod laws;
+pub mod literals;
 mod prim_items;
 pub mod rule;
 pub mod shifting;

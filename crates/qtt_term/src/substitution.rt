@@ -2,7 +2,7 @@
 
 ghost use Rattle.std.specs.Prelude.{◌≡◌, IfOk, map};
 ghost use Rattle.qtt_term.specs.Substitution.{sub, lifts};
-ghost use Rattle.qtt_term.specs.Shift.{values_in, sub_branch};
+ghost use Rattle.qtt_term.specs.Shift.{values_in, values_or, signature_values, term_beyond, sub_branch};
 ghost use Rattle.qtt_term.specs.View.{term, terms, case, delete, branches};
 
 use crate::shifting::raised;
@@ -14,7 +14,32 @@ impl Term {
     pub fn subst(&self, alloc: Global, values: &[Term]) -> Result<Term, TermError>
         ensures { IfOk result (λ t. term t ≡ sub (values_in (terms values.now)) (term self.now)) }
     {
-        substituted(alloc, self, 0, values)
+        substituted(alloc, self, 0, values, Beyond::Kept)
+    }
+
+    /// A part of a signature with values for all variables that the signature binds, the last of them for variable 0.
+    pub fn fill(&self, alloc: Global, values: &[Term]) -> Result<Term, TermError>
+        ensures { IfOk result (λ t. term t ≡ sub (signature_values (terms values.now)) (term self.now)) }
+    {
+        substituted(alloc, self, 0, values, Beyond::Unbound)
+    }
+}
+
+/// What stands for the variables beyond the values.
+#[derive(Clone, Copy, Debug, PartialEq, Eq)]
+pub(crate) enum Beyond {
+    /// The variable, lowered.
+    Kept,
+    /// `Type`: a signature binds no such variable.
+    Unbound,
+}
+
+fn term_beyond(beyond: Beyond, index: u32) -> Term
+    ensures { term result ≡ term_beyond beyond index }
+{
+    match beyond {
+        Beyond::Kept => Term::Var(index),
+        Beyond::Unbound => Term::Sort(0),
     }
 }
 
@@ -23,8 +48,9 @@ fn substituted_var(
     index: u32,
     depth: u32,
     values: &[Term],
+    beyond: Beyond,
 ) -> Result<Term, TermError>
-    ensures { IfOk result (λ t. term t ≡ lifts depth (values_in (terms values.now)) index) }
+    ensures { IfOk result (λ t. term t ≡ lifts depth (values_or beyond (terms values.now)) index) }
 {
     if index < depth {
         return Ok(Term::Var(index));
@@ -33,44 +59,57 @@ fn substituted_var(
     if place < values.len() {
         values[values.len() - 1 - place].shift(alloc, 0, depth)
     } else {
-        Ok(Term::Var(index - values.len() as u32))
+        Ok(term_beyond(beyond, index - values.len() as u32))
     }
 }
 
 #[cycle(substituted)]
 #[tactic(auto, using(crate::proofs::Moves::moves))]
-fn substituted(alloc: Global, source: &Term, depth: u32, values: &[Term]) -> Result<Term, TermError>
-    ensures { IfOk result (λ t. term t ≡ sub (lifts depth (values_in (terms values.now))) (term source.now)) }
+fn substituted(
+    alloc: Global,
+    source: &Term,
+    depth: u32,
+    values: &[Term],
+    beyond: Beyond,
+) -> Result<Term, TermError>
+    ensures { IfOk result (λ t. term t ≡ sub (lifts depth (values_or beyond (terms values.now))) (term source.now)) }
 {
     match source {
-        Term::Var(i) => substituted_var(alloc, *i, depth, values),
+        Term::Var(i) => substituted_var(alloc, *i, depth, values, beyond),
         Term::Sort(level) => Ok(Term::Sort(*level)),
         Term::Pi(q, a, b) => {
-            let a = substituted(alloc, a, depth, values)?;
-            let b = substituted(alloc, b, raised(depth, 1)?, values)?;
+            let a = substituted(alloc, a, depth, values, beyond)?;
+            let b = substituted(alloc, b, raised(depth, 1)?, values, beyond)?;
             Term::pi(alloc, *q, a, b)
         }
         Term::Lam(q, a, b) => {
-            let a = substituted(alloc, a, depth, values)?;
-            let b = substituted(alloc, b, raised(depth, 1)?, values)?;
+            let a = substituted(alloc, a, depth, values, beyond)?;
+            let b = substituted(alloc, b, raised(depth, 1)?, values, beyond)?;
             Term::lam(alloc, *q, a, b)
         }
         Term::App(q, f, a) => {
-            let f = substituted(alloc, f, depth, values)?;
-            let a = substituted(alloc, a, depth, values)?;
+            let f = substituted(alloc, f, depth, values, beyond)?;
+            let a = substituted(alloc, a, depth, values, beyond)?;
             Term::app(alloc, *q, f, a)
         }
-        Term::Fam(id, args) => Ok(Term::Fam(*id, substituted_all(alloc, args, depth, values)?)),
+        Term::Fam(id, args) => Ok(Term::Fam(
+            *id,
+            substituted_all(alloc, args, depth, values, beyond)?,
+        )),
         Term::Con(id, params, fields) => {
-            let params = substituted_all(alloc, params, depth, values)?;
-            Ok(Term::Con(*id, params, substituted_all(alloc, fields, depth, values)?))
+            let params = substituted_all(alloc, params, depth, values, beyond)?;
+            Ok(Term::Con(
+                *id,
+                params,
+                substituted_all(alloc, fields, depth, values, beyond)?,
+            ))
         }
         Term::Case(case) => {
-            let case = substituted_case(alloc, case, depth, values)?;
+            let case = substituted_case(alloc, case, depth, values, beyond)?;
             Ok(Term::Case(Box::new(alloc, case)?))
         }
         Term::Delete(delete) => {
-            let delete = substituted_delete(alloc, delete, depth, values)?;
+            let delete = substituted_delete(alloc, delete, depth, values, beyond)?;
             Ok(Term::Delete(Box::new(alloc, delete)?))
         }
         Term::Def(id) => Ok(Term::Def(*id)),
@@ -79,18 +118,25 @@ fn substituted(alloc: Global, source: &Term, depth: u32, values: &[Term]) -> Res
         Term::StringTy => Ok(Term::StringTy),
         Term::HandleTy => Ok(Term::HandleTy),
         Term::IoTy(kind, a) => {
-            let a = Box::new(alloc, substituted(alloc, a, depth, values)?)?;
+            let a = Box::new(alloc, substituted(alloc, a, depth, values, beyond)?)?;
             Ok(Term::IoTy(*kind, a))
         }
         Term::Prim(prim, args) => Ok(Term::Prim(
             *prim,
-            substituted_all(alloc, args, depth, values)?,
+            substituted_all(alloc, args, depth, values, beyond)?,
         )),
         Term::Act(kind, types, args) => {
-            let types = substituted_all(alloc, types, depth, values)?;
-            Ok(Term::Act(*kind, types, substituted_all(alloc, args, depth, values)?))
+            let types = substituted_all(alloc, types, depth, values, beyond)?;
+            Ok(Term::Act(
+                *kind,
+                types,
+                substituted_all(alloc, args, depth, values, beyond)?,
+            ))
         }
-        Term::Trap(a) => Ok(Term::Trap(Box::new(alloc, substituted(alloc, a, depth, values)?)?)),
+        Term::Trap(a) => Ok(Term::Trap(Box::new(
+            alloc,
+            substituted(alloc, a, depth, values, beyond)?,
+        )?)),
         Term::Tape(n) => Ok(Term::Tape(*n)),
     }
 }
@@ -101,12 +147,13 @@ fn substituted_all(
     sources: &[Term],
     depth: u32,
     values: &[Term],
+    beyond: Beyond,
 ) -> Result<Vec<Term>, TermError>
-    ensures { IfOk result (λ v. terms v.items ≡ map (sub (lifts depth (values_in (terms values.now)))) (terms sources.now)) }
+    ensures { IfOk result (λ v. terms v.items ≡ map (sub (lifts depth (values_or beyond (terms values.now)))) (terms sources.now)) }
 {
     let mut moved = Vec::with_capacity(alloc, sources.len())?;
     for source in sources {
-        moved.push(substituted(alloc, source, depth, values)?)?;
+        moved.push(substituted(alloc, source, depth, values, beyond)?)?;
     }
     Ok(moved)
 }
@@ -118,15 +165,16 @@ fn substituted_branches(
     sources: &[Branch],
     depth: u32,
     values: &[Term],
+    beyond: Beyond,
 ) -> Result<Vec<Branch>, TermError>
-    ensures { IfOk result (λ v. branches v.items ≡ map (sub_branch (lifts depth (values_in (terms values.now)))) (branches sources.now)) }
+    ensures { IfOk result (λ v. branches v.items ≡ map (sub_branch (lifts depth (values_or beyond (terms values.now)))) (branches sources.now)) }
 {
     let mut moved = Vec::with_capacity(alloc, sources.len())?;
     for source in sources {
         let inner = raised(depth, source.fields)?;
         moved.push(Branch {
             fields: source.fields,
-            body: substituted(alloc, &source.body, inner, values)?,
+            body: substituted(alloc, &source.body, inner, values, beyond)?,
         })?;
     }
     Ok(moved)
@@ -139,18 +187,19 @@ fn substituted_case(
     source: &Case,
     depth: u32,
     values: &[Term],
+    beyond: Beyond,
 ) -> Result<Case, TermError>
-    ensures { IfOk result (λ c. case c ≡ sub (lifts depth (values_in (terms values.now))) (case source.now)) }
+    ensures { IfOk result (λ c. case c ≡ sub (lifts depth (values_or beyond (terms values.now))) (case source.now)) }
 {
     let inner = raised(depth, raised(source.indices, 1)?)?;
     Ok(Case {
         mult: source.mult,
         family: source.family,
-        params: substituted_all(alloc, &source.params, depth, values)?,
+        params: substituted_all(alloc, &source.params, depth, values, beyond)?,
         indices: source.indices,
-        motive: substituted(alloc, &source.motive, inner, values)?,
-        branches: substituted_branches(alloc, &source.branches, depth, values)?,
-        scrutinee: substituted(alloc, &source.scrutinee, depth, values)?,
+        motive: substituted(alloc, &source.motive, inner, values, beyond)?,
+        branches: substituted_branches(alloc, &source.branches, depth, values, beyond)?,
+        scrutinee: substituted(alloc, &source.scrutinee, depth, values, beyond)?,
     })
 }
 
@@ -161,15 +210,16 @@ fn substituted_delete(
     source: &Delete,
     depth: u32,
     values: &[Term],
+    beyond: Beyond,
 ) -> Result<Delete, TermError>
-    ensures { IfOk result (λ d. delete d ≡ sub (lifts depth (values_in (terms values.now))) (delete source.now)) }
+    ensures { IfOk result (λ d. delete d ≡ sub (lifts depth (values_or beyond (terms values.now))) (delete source.now)) }
 {
     Ok(Delete {
         mult: source.mult,
-        ty: substituted(alloc, &source.ty, depth, values)?,
-        point: substituted(alloc, &source.point, depth, values)?,
-        motive: substituted(alloc, &source.motive, raised(depth, 1)?, values)?,
-        branch: substituted(alloc, &source.branch, depth, values)?,
-        scrutinee: substituted(alloc, &source.scrutinee, depth, values)?,
+        ty: substituted(alloc, &source.ty, depth, values, beyond)?,
+        point: substituted(alloc, &source.point, depth, values, beyond)?,
+        motive: substituted(alloc, &source.motive, raised(depth, 1)?, values, beyond)?,
+        branch: substituted(alloc, &source.branch, depth, values, beyond)?,
+        scrutinee: substituted(alloc, &source.scrutinee, depth, values, beyond)?,
     })
 }

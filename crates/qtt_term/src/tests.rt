@@ -6,6 +6,29 @@ use qtt_base::{GlobalId, ModuleId, Name};
 use qtt_usage::mult::Mult;
 use std::test::Fail;
 
+fn takes_shared<T: Sync>(value: &T) -> &T {
+    value
+}
+
+fn takes_moved<T: Send>(value: T) -> T {
+    value
+}
+
+fn moved(globals: Globals) -> Globals {
+    takes_moved(globals)
+}
+
+fn shared(globals: &Globals) -> &Globals {
+    takes_shared(globals)
+}
+
+#[test]
+fn environments_cross_threads(rt: HostRuntime) -> Result<(), Fail> {
+    let globals = moved(Globals::prim(rt.alloc())?);
+    assert_eq!(rt; shared(&globals).definitions().len(), 0);
+    Ok(())
+}
+
 #[test]
 fn terms_are_moved(rt: HostRuntime) -> Result<(), Fail> {
     let alloc = rt.alloc();
@@ -15,7 +38,9 @@ fn terms_are_moved(rt: HostRuntime) -> Result<(), Fail> {
     let values = vec![in alloc; Term::Sort(4)]?;
     assert!(rt; function.shift(alloc, 0, 2)?.same(&shifted));
     assert!(rt; function.subst(alloc, &values)?.same(&filled));
+    assert!(rt; Term::Var(0).fill(alloc, &values)?.same(&Term::Sort(4)));
     assert!(rt; function.copy(alloc)?.same(&function));
+    function.literals_in_range();
     assert!(rt; !function.same(&shifted));
     Ok(())
 }

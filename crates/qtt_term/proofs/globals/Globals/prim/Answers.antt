@@ -1,7 +1,7 @@
 use Rattle.std.proofs.Common.{◌≡◌, [], ◌∷◌, refl, ◌∙◌}
 use Rattle.qtt_term.specs.Items.{family_entry}
 use Rattle.qtt_term.specs.PrimItems.{unit_entry, bool_entry, line_entry, eq_entry, prim_families}
-use Rattle.qtt_term.specs.Globals.{families, definitions}
+use Rattle.qtt_term.specs.Globals.{families}
 use Rattle.qtt_term.proofs.PrimGlobals.{is_new, added, three_in, prim_is}
 use Rattle.qtt_term.proofs.globals.Globals.prim.Goals as goal
 

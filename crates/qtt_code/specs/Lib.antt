@@ -1,0 +1,7 @@
+pub mod Instruction
+pub mod Value
+pub mod Machine
+pub mod Listing
+pub mod View
+pub mod Laws
+pub mod Rows

@@ -1,0 +1,14 @@
+pub mod Lowering
+pub mod Programs
+pub mod Rows
+pub mod Lowerable
+pub mod Source
+pub mod Represents
+pub mod View
+pub mod Lowered
+pub mod Sizes
+pub mod Answered
+pub mod Compiled
+pub mod Whole
+pub mod Evaluation
+pub mod Laws

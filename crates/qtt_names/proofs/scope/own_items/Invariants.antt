@@ -1,0 +1,11 @@
+use Rattle.std.proofs.Common.{◌≡◌, [], map, take, length}
+use Rattle.std.specs.List.{flat_map}
+use Rattle.qtt_syntax.specs.View.{item_of}
+use Rattle.qtt_names.specs.Scope.{declared, with_items}
+use Rattle.qtt_names.proofs.scope.own_items.Given as goal
+
+abbrev pub invariant-loop-item : goal.invariant-loop-item
+invariant-loop-item l = record {
+  entries : l.own.entries ≡ with_items [] 0 (flat_map declared (map item_of (take l.item-index l.items)));
+  next : l.number ≡ length (flat_map declared (map item_of (take l.item-index l.items)));
+}

@@ -1,0 +1,11 @@
+pub mod Answer
+pub mod Scope
+pub mod Target
+pub mod InTurn
+pub mod Filled
+pub mod Patterns
+pub mod Resolved
+pub mod PrimNames
+pub mod Exports
+pub mod View
+pub mod Examples
