@@ -12,6 +12,3 @@ mod pair;
 mod spine;
 
 pub use by_subst::BySubst;
-
-#[cfg(test)]
-mod tests;
