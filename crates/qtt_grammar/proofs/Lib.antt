@@ -4,6 +4,8 @@ pub mod Trees
 pub mod Applied
 pub mod Statements
 pub mod Lambdas
+pub mod PatternTrees
+pub mod PatternReaders
 pub mod Decide
 pub mod Sets
 pub mod Levels

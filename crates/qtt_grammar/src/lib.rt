@@ -11,6 +11,7 @@ mod laws;
 mod level;
 mod lexeme;
 mod lines;
+mod pattern;
 mod stop;
 mod token;
 mod typing;
