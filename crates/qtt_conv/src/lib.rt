@@ -12,3 +12,6 @@ mod pair;
 mod spine;
 
 pub use by_subst::BySubst;
+
+#[cfg(test)]
+mod tests;
