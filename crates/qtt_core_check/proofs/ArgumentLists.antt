@@ -1,10 +1,9 @@
 -- Arguments one list behind another, within a budget.
-use Rattle.std.proofs.Common.{◌≡◌, ℕ, zero, suc, ◌+◌, ◌<◌, ◌≤◌, List, [], ◌∷◌, ◌++◌, length, take, drop, get_or, map, append_assoc, refl, sym, ◌∙◌, ap, subst, arith}
+use Rattle.std.proofs.Common.{◌≡◌, ℕ, zero, suc, ◌+◌, ◌<◌, ◌≤◌, List, [], ◌∷◌, ◌++◌, length, take, drop, get_or, append_assoc, refl, sym, ◌∙◌, ap, subst, arith}
 use mathlib.Core.Path.{ap₂}
 use Rattle.std.proofs.lemmas.List.{length-map, length-take-le, take-append-drop, map-append, take_all, take_more}
 use Rattle.std.proofs.Math.Seq.{drop-cons}
 use Rattle.qtt_usage.specs.declared.mult.Mult.{Mult}
-use Rattle.qtt_usage.specs.Mult.{𝟘, ◌⊕◌}
 use Rattle.qtt_usage.specs.Usage.{usage_sum, usage_scale, no_usage}
 use Rattle.qtt_usage.proofs.Mults.{⊕-assoc, ⊕-zero, zero-⊕}
 use Rattle.qtt_term.specs.declared.term.Term as code
@@ -12,7 +11,6 @@ use Rattle.qtt_term.specs.Term.{Term, Terms, ε, ◌▸◌, size, ◌+++◌}
 use Rattle.qtt_term.specs.Substitution.{sub, cons, push, closed}
 use Rattle.qtt_term.specs.Signature.{Tele, Env}
 use Rattle.qtt_term.specs.Judgement.{Ctx, Part, under}
-use Rattle.qtt_term.specs.Ask.{Ask, ◌>>=◌}
 use Rattle.qtt_term.specs.View.{term, terms, side_by_side}
 use Rattle.qtt_term.specs.Infer.{Asks, Premise, Wanted, wanted, has, infer, arguments}
 use Rattle.qtt_core_check.specs.declared.refusal.CoreRefusal.{CoreRefusal}

@@ -1,29 +1,22 @@
 -- Forms with arguments, by what is found of their arguments.
-use Rattle.std.proofs.Common.{◌≡◌, ℕ, List, [], ◌∷◌, ◌++◌, length, sym, ◌∙◌, ap, subst}
+use Rattle.std.proofs.Common.{◌≡◌, ℕ, List, [], ◌++◌, length, sym, ◌∙◌, ap, subst}
 use Rattle.std.proofs.lemmas.List.{length-map}
 use mathlib.Core.Path.{ap₂}
-use Rattle.qtt_base.specs.declared.place.GlobalId.{GlobalId}
 use Rattle.qtt_usage.specs.declared.mult.Mult.{Mult}
 use Rattle.qtt_usage.specs.Usage.{usage_sum}
-use Rattle.qtt_term.specs.declared.rule.Rule.TheVariants as rule
 use Rattle.qtt_term.specs.declared.term.Term as code
-use Rattle.qtt_term.specs.Term.{Form, Term, Terms, node, size, ◌+++◌}
+use Rattle.qtt_term.specs.Term.{Term, size, ◌+++◌}
 use Rattle.qtt_term.specs.Substitution.{sub, push, closed}
-use Rattle.qtt_term.specs.Signature.{Tele, Env, ConSig, fam_at}
-use Rattle.qtt_term.specs.Judgement.{Ctx, Part, erase_binds}
-use Rattle.qtt_term.specs.Ask.{Ask, ◌>>=◌}
+use Rattle.qtt_term.specs.Signature.{Tele, Env}
+use Rattle.qtt_term.specs.Judgement.{Ctx, Part}
 use Rattle.qtt_term.specs.View.{term, terms, side_by_side}
-use Rattle.qtt_term.specs.Infer.{Asks, Premise, at, Wanted, wanted, constructor_wants, Inferred, inferred, infer, arguments}
+use Rattle.qtt_term.specs.Infer.{Premise, Wanted, wanted, inferred, arguments}
 use Rattle.qtt_core_check.specs.declared.refusal.CoreRefusal.{CoreRefusal}
-use Rattle.qtt_core_check.specs.declared.named_rows.Made as code_made
 use Rattle.qtt_core_check.specs.Filled.{tele, filled}
-use Rattle.qtt_core_check.specs.Constructors.{IsMade}
 use Rattle.qtt_core_check.specs.Seen.{Reaches, Refuses}
-use Rattle.qtt_core_check.proofs.Arguments.{length-wanted}
-use Rattle.qtt_core_check.proofs.Scopes.{length-tele}
-use Rattle.qtt_core_check.proofs.Within.{on, on_done, here, later, reached}
+use Rattle.qtt_core_check.proofs.Within.{on, on_done, here, reached}
 use Rattle.qtt_core_check.proofs.Continuing.{refused}
-use Rattle.qtt_core_check.proofs.ArgumentLists.{size-side, filled-more, wanted-append, append-reaches, append-first, append-second}
+use Rattle.qtt_core_check.proofs.ArgumentLists.{size-side, filled-more, append-reaches, append-first, append-second}
 use Rattle.qtt_core_check.proofs.Binders.{push-append}
 use Rattle.qtt_core_check.proofs.FormRows.{applies}
 

@@ -8,7 +8,7 @@ use Rattle.qtt_usage.specs.declared.mult.Mult.{Mult}
 use Rattle.qtt_usage.specs.Mult.{𝟘, 𝟙, ω, ◌⊙◌}
 use Rattle.qtt_term.specs.declared.term.Term as code
 use Rattle.qtt_term.specs.declared.term.Term.{the_lemmas}
-use Rattle.qtt_term.specs.Term.{Term, Terms, var, ε, ◌▸◌, ◌+++◌, Sort}
+use Rattle.qtt_term.specs.Term.{Term, Terms, var, ε, ◌▸◌, ◌+++◌}
 use Rattle.qtt_term.specs.Substitution.{ren, sub, subs, lift, lifts, cons, push, shift, above, closed}
 use Rattle.qtt_term.specs.Shift.{raised, values_in}
 use Rattle.qtt_term.specs.Signature.{Tele, index_binders}

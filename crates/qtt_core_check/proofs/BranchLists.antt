@@ -1,16 +1,15 @@
 -- The branches of a match one after another, within a budget.
-use Rattle.std.proofs.Common.{◌≡◌, ℕ, zero, suc, ◌+◌, ◌<◌, ◌≤◌, Bool, true, false, cond, List, [], ◌∷◌, length, take, drop, map, Option, Some, None, slice_get, get_or, refl, sym, ◌∙◌, ap, arith}
+use Rattle.std.proofs.Common.{◌≡◌, ℕ, zero, suc, ◌+◌, ◌<◌, ◌≤◌, Bool, true, false, cond, List, [], ◌∷◌, length, drop, map, Option, Some, None, slice_get, get_or, refl, sym, ◌∙◌, ap, arith}
 use mathlib.Core.Path.{ap₂}
-use Rattle.std.proofs.lemmas.List.{length-map, drop_all}
+use Rattle.std.proofs.lemmas.List.{drop_all}
 use Rattle.qtt_base.specs.declared.place.GlobalId.{GlobalId}
 use Rattle.qtt_usage.specs.declared.mult.Mult.{Mult}
-use Rattle.qtt_usage.specs.Usage.{usage_join}
 use Rattle.qtt_term.specs.declared.term.Branch as code_branch
 use Rattle.qtt_term.specs.Term.{Term}
 use Rattle.qtt_term.specs.View.{branch, branches}
 use Rattle.qtt_term.specs.Signature.{Env, Constructor, ConSig, con_sigs}
 use Rattle.qtt_term.specs.Judgement.{Ctx, Part}
-use Rattle.qtt_term.specs.Ask.{Ask, ◌>>=◌, within}
+use Rattle.qtt_term.specs.Ask.{◌>>=◌, within}
 use Rattle.qtt_term.specs.Infer.{CaseOf, is_dead, joined_with, with_branch, joined_use}
 use Rattle.qtt_core_check.specs.declared.refusal.CoreRefusal.{CoreRefusal}
 use Rattle.qtt_core_check.specs.Cases.{branch_asks, branches_ask}

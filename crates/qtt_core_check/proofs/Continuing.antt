@@ -1,7 +1,6 @@
 -- A list of questions as a part of another: what the part's ending says of the whole.
 use Rattle.std.proofs.Common.{◌≡◌, ℕ, Result, Ok, Err, MatchResult, refl, sym, ap, subst, ◌∙◌}
 use mathlib.Core.Path.{ap₂, fun_ext}
-use Rattle.qtt_term.specs.Term.{Term}
 use Rattle.qtt_term.specs.Signature.{Env}
 use Rattle.qtt_term.specs.Ask.{Ask, ◌>>=◌, Question, Ending, within}
 use Rattle.qtt_term.specs.Infer.{Asks, Premise}

@@ -1,8 +1,8 @@
 -- What is found of families, constructors and definitions, and what their rules then ask.
-use Rattle.std.proofs.Common.{◌≡◌, ◌≢◌, ℕ, zero, suc, ◌+◌, Bool, true, false, ◌&&◌, eqb, List, [], ◌∷◌, ◌++◌, length, map, Option, Some, None, option_map, slice_get, refl, sym, ◌∙◌, ap, arith}
+use Rattle.std.proofs.Common.{◌≡◌, ◌≢◌, ℕ, zero, suc, ◌+◌, Bool, true, false, ◌&&◌, eqb, List, [], ◌∷◌, ◌++◌, length, Some, None, slice_get, refl, sym, ◌∙◌, ap, arith}
 use mathlib.Core.Path.{ap₂}
 use Rattle.std.proofs.lemmas.Bool.{eq-eqb, eqb-true, ne_eqb}
-use Rattle.std.proofs.lemmas.List.{length-map, length-append}
+use Rattle.std.proofs.lemmas.List.{length-append}
 use Rattle.qtt_base.specs.declared.place.GlobalId.{GlobalId}
 use Rattle.qtt_usage.specs.declared.mult.Mult.{Mult}
 use Rattle.qtt_usage.specs.Mult.{𝟘}
@@ -11,9 +11,8 @@ use Rattle.qtt_term.specs.declared.term.Term as code
 use Rattle.qtt_term.specs.declared.rule.Rule.TheVariants as rule
 use Rattle.qtt_term.specs.Term.{Def}
 use Rattle.qtt_term.specs.Substitution.{sub, closed}
-use Rattle.qtt_term.specs.Signature.{Tele, Env, Constructor, Family, Definition, ConSig, con_sig, con_sigs, family_of, fam_sig, fam_at, index_binders}
-use Rattle.qtt_term.specs.Judgement.{Ctx, Part, scale, erase_binds}
-use Rattle.qtt_term.specs.Ask.{Ask}
+use Rattle.qtt_term.specs.Signature.{Tele, Env, Constructor, Family, Definition, con_sig, con_sigs, family_of, fam_sig, fam_at, index_binders}
+use Rattle.qtt_term.specs.Judgement.{Ctx, Part, erase_binds}
 use Rattle.qtt_term.specs.Infer.{Premise, at, inferred, is_there, usable, wanted, family_wants, constructor_wants, infer}
 use Rattle.qtt_core_check.specs.Filled.{tele}
 use Rattle.qtt_core_check.specs.Constructors.{counted, made_shaped}

@@ -1,15 +1,14 @@
 -- The questions of each form, by those of its parts.
-use Rattle.std.proofs.Common.{◌≡◌, ℕ, zero, suc, ◌+◌, Bool, true, false, ◌&&◌, eqb, List, [], ◌∷◌, ◌++◌, length, map, Option, Some, None, slice_get, refl, sym, ◌∙◌, ap, subst, arith}
+use Rattle.std.proofs.Common.{◌≡◌, ℕ, suc, ◌+◌, Bool, true, false, ◌&&◌, eqb, List, [], ◌∷◌, ◌++◌, length, map, Option, Some, None, slice_get, refl, sym, ◌∙◌, ap, subst, arith}
 use mathlib.Core.Path.{ap₂}
 use Rattle.std.proofs.lemmas.Bool.{eq-eqb}
 use Rattle.std.proofs.lemmas.List.{length-map}
 use Rattle.qtt_base.specs.declared.place.GlobalId.{GlobalId}
 use Rattle.qtt_usage.specs.declared.mult.Mult.{Mult}
-use Rattle.qtt_usage.specs.Mult.{𝟘, 𝟙, ω, ◌⊙◌}
-use Rattle.qtt_usage.specs.Usage.{usage_sum, usage_scale, no_usage}
+use Rattle.qtt_usage.specs.Mult.{ω}
 use Rattle.qtt_prims.specs.declared.prim.Primitive.{Primitive}
 use Rattle.qtt_prims.specs.declared.prim.Primitive.TheVariants as prim
-use Rattle.qtt_term.specs.Term.{Io, Action, Named, Form, Term, Terms, var, node, ε, ◌▸◌, size, skip, ◌+++◌, Sort, Fam}
+use Rattle.qtt_term.specs.Term.{Action, Named, Form, Term, Terms, node, ε, ◌▸◌, size, ◌+++◌, Sort, Fam}
 use Rattle.qtt_term.specs.Substitution.{sub, cons, push, closed}
 use Rattle.qtt_term.specs.Signature.{Tele, Env, ConSig, FamSig, fam_at, signature, prim_signature, act_signature}
 use Rattle.qtt_term.specs.Question.{same_counts}
@@ -17,7 +16,7 @@ use Rattle.qtt_term.specs.Judgement.{Ctx, Part, ext, sub_binds, scale, under, er
 use Rattle.qtt_term.specs.Ask.{Ask, ◌>>=◌}
 use Rattle.qtt_term.specs.declared.rule.Rule.TheVariants as rule
 use Rattle.qtt_term.specs.View.{side_by_side}
-use Rattle.qtt_term.specs.Infer.{Asks, Premise, at, Inferred, inferred, need, agree, is_there, usable, named_there, has, type_of, wanted, family_wants, constructor_wants, constructor_at, rule_of, field_counts, case_shaped, CaseOf, infer, arguments, case_params, case_branches, unbound, with_branch}
+use Rattle.qtt_term.specs.Infer.{Asks, Premise, at, Inferred, inferred, need, agree, is_there, usable, named_there, has, type_of, wanted, family_wants, constructor_wants, rule_of, field_counts, CaseOf, infer, arguments, case_params, case_branches, unbound, with_branch}
 use Rattle.qtt_core_check.specs.declared.refusal.CoreRefusal.{CoreRefusal}
 use Rattle.qtt_core_check.specs.Constructors.{made_shaped}
 use Rattle.qtt_core_check.specs.Cases.{shaped, branch_asks, branches_ask, scrutinee_asks}

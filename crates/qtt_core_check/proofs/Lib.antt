@@ -27,3 +27,6 @@ pub mod Families
 pub mod Matches
 pub mod ArgumentRows
 pub mod Places
+pub mod Applied
+pub mod CaseRows
+pub mod Contexts

@@ -11,10 +11,9 @@ use Rattle.qtt_term.specs.declared.term.Term as code
 use Rattle.qtt_term.specs.declared.term.Branch as code_branch
 use Rattle.qtt_term.specs.declared.items.Constructor as code_constructor
 use Rattle.qtt_term.specs.declared.items.Family as code_family
-use Rattle.qtt_term.specs.Term.{Term, Terms, ε, ◌▸◌, skip}
+use Rattle.qtt_term.specs.Term.{Term, skip}
 use Rattle.qtt_term.specs.Signature.{Tele, Env, Constructor, con_sigs, fam_sig, self_of, index_binders}
 use Rattle.qtt_term.specs.Judgement.{Part}
-use Rattle.qtt_term.specs.Ask.{Ask, ◌>>=◌}
 use Rattle.qtt_term.specs.Items.{family, constructor, field}
 use Rattle.qtt_term.specs.Question.{same_counts}
 use Rattle.qtt_term.specs.View.{term, terms, branch, branches, side_by_side}

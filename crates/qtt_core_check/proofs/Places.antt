@@ -7,7 +7,6 @@ use Rattle.qtt_usage.specs.Mult.{𝟘}
 use Rattle.qtt_term.specs.declared.rule.Rule.TheVariants as rule
 use Rattle.qtt_term.specs.declared.items.Constructor as code_constructor
 use Rattle.qtt_term.specs.declared.items.Family as code_family
-use Rattle.qtt_term.specs.Term.{Term}
 use Rattle.qtt_term.specs.Signature.{ConSig, con_sig, fam_sig, index_binders}
 use Rattle.qtt_term.specs.Judgement.{erase_binds}
 use Rattle.qtt_term.specs.Items.{family, constructor}

@@ -1,5 +1,5 @@
 -- The rule of matches by its parts: one branch, the branches in order, the scrutinee.
-use Rattle.std.specs.Prelude.{ℕ, Bool, true, ◌&&◌, ◌||◌, eqb, List, [], ◌∷◌, map, length, drop, Option, Some, None}
+use Rattle.std.specs.Prelude.{ℕ, Bool, true, ◌&&◌, ◌||◌, eqb, List, [], ◌∷◌, length, drop, Option}
 use Rattle.qtt_usage.specs.declared.mult.Mult.{Mult}
 use Rattle.qtt_usage.specs.Usage.{usage_sum, usage_scale}
 use Rattle.qtt_term.specs.declared.rule.Rule.TheVariants as rule

@@ -7,4 +7,5 @@ pub mod Cases
 pub mod WithUses
 pub mod Trapless
 pub mod SmallSorts
+pub mod Meaning
 pub mod Laws

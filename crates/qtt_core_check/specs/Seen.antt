@@ -1,5 +1,5 @@
 -- What the values of the code stand for.
-use Rattle.std.specs.Prelude.{◌≡◌, ℕ, List, [], ◌∷◌, Bool, true, ◌||◌, Result, MatchResult}
+use Rattle.std.specs.Prelude.{◌≡◌, ℕ, [], ◌∷◌, Bool, true, ◌||◌, Result, MatchResult}
 use Rattle.qtt_usage.specs.declared.mult.Mult.{Mult}
 use Rattle.qtt_term.specs.declared.convert.Question as code_question
 use Rattle.qtt_term.specs.declared.convert.Question.TheVariants as asked

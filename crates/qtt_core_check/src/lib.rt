@@ -2,7 +2,9 @@
 #![tactic(auto)]
 
 mod filling;
+pub mod inference;
 pub mod judged;
+pub mod judgement;
 pub mod laws;
 pub mod matching;
 pub mod named_rows;

@@ -21,6 +21,7 @@ use qtt_usage::usage::{Usage, UsageError};
 use std::alloc::Global;
 
 /// What the judgement is given: an answerer of questions with its contractions for each, and the environment.
+#[derive(Drop)]
 pub struct Checker<'a, C> {
     pub alloc: Global,
     pub converter: &'a C,

@@ -1,4 +1,4 @@
-use Rattle.std.proofs.Common.{◌≡◌, ◌-◌, ◌≤◌, [], length, ap, refl, sym, rules, arith}
+use Rattle.std.proofs.Common.{◌-◌, [], length, ap, refl, rules, arith}
 use mathlib.Core.Path.{ap₂}
 use Rattle.std.proofs.lemmas.List.{length-drop, take_all}
 use Rattle.qtt_term.specs.Infer.{binders_fit, mults_onto}

@@ -1,5 +1,4 @@
-use Rattle.std.proofs.Common.{◌≡◌, ◌++◌, [], ◌∷◌, rules, arith}
-use Rattle.qtt_usage.specs.Mult.{ω, ◌⊙◌}
+use Rattle.std.proofs.Common.{◌≡◌, ◌++◌, [], ◌∷◌, rules}
 use Rattle.qtt_term.specs.Substitution.{ren}
 use Rattle.qtt_term.specs.Shift.{raised}
 use Rattle.qtt_term.specs.View.{term}

@@ -1,6 +1,6 @@
 use Rattle.std.proofs.Common.{◌≡◌, take, map}
 use Rattle.qtt_term.specs.Substitution.{ren, shift}
-use Rattle.qtt_term.specs.View.{term, terms}
+use Rattle.qtt_term.specs.View.{terms}
 use Rattle.qtt_core_check.proofs.telescopes.under.Given as goal
 
 abbrev pub invariant-loop-value : goal.invariant-loop-value

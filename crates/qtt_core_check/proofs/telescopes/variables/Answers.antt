@@ -1,4 +1,4 @@
-use Rattle.std.proofs.Common.{◌≡◌, ◌+◌, ◌-◌, ◌++◌, [], ◌∷◌, rules, refl}
+use Rattle.std.proofs.Common.{◌≡◌, ◌+◌, ◌-◌, ◌++◌, [], ◌∷◌, rules}
 use Rattle.qtt_term.specs.declared.term.Term.TheVariants as form
 use Rattle.qtt_term.specs.Substitution.{above}
 use Rattle.qtt_core_check.proofs.Views.{var-seen}

@@ -2,7 +2,6 @@ use Rattle.std.proofs.Common.{◌≡◌, ◌≢◌, ◌+◌, ◌∙◌, length, 
 use Rattle.std.proofs.lemmas.Bool.{eq-eqb, ne_eqb}
 use Rattle.qtt_term.specs.View.{action}
 use Rattle.qtt_term.specs.Signature.{act_signature}
-use Rattle.qtt_core_check.specs.Filled.{tele}
 use Rattle.qtt_core_check.specs.Signatures.{signature}
 use Rattle.qtt_core_check.proofs.Scopes.{length-tele}
 use Rattle.qtt_core_check.proofs.Within.{holds, unmet}

@@ -1,5 +1,5 @@
-use Rattle.std.proofs.Common.{◌≡◌, ◌∙◌, true, false, sym, ap, rules, arith, length}
-use Rattle.std.proofs.lemmas.List.{length-map, length-drop}
+use Rattle.std.proofs.Common.{◌∙◌, sym, ap, rules, arith, length}
+use Rattle.std.proofs.lemmas.List.{length-drop}
 use Rattle.qtt_term.specs.Contexts.{part}
 use Rattle.qtt_term.specs.View.{term}
 use Rattle.qtt_core_check.specs.Filled.{tele}

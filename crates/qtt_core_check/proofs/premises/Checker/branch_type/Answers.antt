@@ -1,4 +1,4 @@
-use Rattle.std.proofs.Common.{◌≡◌, ◌∙◌, length, get_or, sym, ap, rules}
+use Rattle.std.proofs.Common.{◌≡◌, ◌∙◌, length, get_or, ap, rules}
 use Rattle.qtt_term.specs.Signature.{con_sig}
 use Rattle.qtt_term.specs.Items.{constructor}
 use Rattle.qtt_term.specs.Judgement.{branch_type}

@@ -1,10 +1,9 @@
-use Rattle.std.proofs.Common.{◌≡◌, ◌+◌, ◌∙◌, ◌&&◌, eqb, Some, None, map, length, true, false, refl, sym, ap, rules}
+use Rattle.std.proofs.Common.{◌≡◌, ◌+◌, ◌∙◌, eqb, Some, None, map, length, true, false, refl, sym, ap, rules}
 use Rattle.std.proofs.lemmas.Bool.{eqb-true, and_parts}
 use Rattle.std.proofs.lemmas.List.{length-map}
 use Rattle.qtt_term.specs.Globals.{env}
 use Rattle.qtt_term.specs.Contexts.{part}
-use Rattle.qtt_term.specs.Signature.{fam_at, fam_sig}
-use Rattle.qtt_term.specs.Question.{same_counts}
+use Rattle.qtt_term.specs.Signature.{fam_at}
 use Rattle.qtt_term.specs.Items.{family}
 use Rattle.qtt_term.specs.View.{branch, branches}
 use Rattle.qtt_term.specs.Infer.{usable}

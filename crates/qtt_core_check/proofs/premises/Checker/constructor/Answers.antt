@@ -1,13 +1,13 @@
-use Rattle.std.proofs.Common.{◌≡◌, ◌≢◌, ◌+◌, ◌≤◌, ◌<◌, ◌∙◌, Some, None, length, map, slice_get, sym, ap, rules, arith}
+use Rattle.std.proofs.Common.{◌≡◌, ◌≢◌, ◌+◌, ◌≤◌, ◌<◌, ◌∙◌, Some, None, length, slice_get, sym, ap, rules, arith}
 use mathlib.Core.Path.{ap₂}
 use Rattle.std.proofs.lemmas.Bool.{ltb-true, ltb-false}
 use Rattle.std.proofs.lemmas.List.{length-map}
 use Rattle.qtt_usage.specs.Mult.{𝟘}
 use Rattle.qtt_term.specs.Globals.{env}
-use Rattle.qtt_term.specs.Signature.{con_sig, fam_at}
+use Rattle.qtt_term.specs.Signature.{con_sig}
 use Rattle.qtt_term.specs.Judgement.{erase_binds}
 use Rattle.qtt_term.specs.Items.{family, constructor, field}
-use Rattle.qtt_term.specs.View.{term, terms}
+use Rattle.qtt_term.specs.View.{term}
 use Rattle.qtt_preserve.proofs.Travel.{length-scale}
 use Rattle.qtt_core_check.specs.Filled.{tele}
 use Rattle.qtt_core_check.proofs.Scopes.{length-tele}

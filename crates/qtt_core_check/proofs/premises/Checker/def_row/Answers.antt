@@ -1,11 +1,11 @@
-use Rattle.std.proofs.Common.{◌≡◌, ◌∙◌, Some, None, true, false, sym, ap, rules}
+use Rattle.std.proofs.Common.{◌≡◌, Some, None, sym, ap, rules}
 use Rattle.qtt_usage.specs.Usage.{no_usage}
 use Rattle.qtt_term.specs.Substitution.{sub, closed}
 use Rattle.qtt_term.specs.Globals.{env}
 use Rattle.qtt_term.specs.Contexts.{part}
 use Rattle.qtt_term.specs.Items.{definition}
 use Rattle.qtt_term.specs.View.{term}
-use Rattle.qtt_term.specs.Infer.{inferred, usable}
+use Rattle.qtt_term.specs.Infer.{inferred}
 use Rattle.qtt_core_check.specs.Seen.{ctx, judged}
 use Rattle.std.proofs.Common.{length}
 use Rattle.qtt_core_check.proofs.Within.{reached}

@@ -1,6 +1,6 @@
 use Rattle.std.proofs.Common.{◌≡◌, ◌≢◌, ◌++◌, ◌∙◌, Some, None, length, sym, ap, rules}
 use Rattle.qtt_term.specs.Globals.{env}
-use Rattle.qtt_term.specs.Signature.{fam_at, index_binders}
+use Rattle.qtt_term.specs.Signature.{index_binders}
 use Rattle.qtt_term.specs.Judgement.{erase_binds}
 use Rattle.qtt_term.specs.Items.{family}
 use Rattle.qtt_core_check.specs.Filled.{tele}
