@@ -1,0 +1,4 @@
+pub mod Used
+pub mod Whole
+pub mod Evaluating
+pub mod Answering

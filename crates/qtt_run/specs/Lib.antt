@@ -1,0 +1,4 @@
+pub mod Code
+pub mod Evaluation
+pub mod CodeRun
+pub mod Laws

@@ -1,0 +1,29 @@
+//! Laws of typed programs that run as their code. Each function does nothing: its contract is the law.
+
+ghost use Rattle.std.specs.Prelude.{List, []};
+ghost use Rattle.qtt_base.specs.declared.place.GlobalId.{GlobalId};
+ghost use Rattle.qtt_usage.specs.Uses.{Use};
+ghost use Rattle.qtt_term.specs.Term.{Term};
+ghost use Rattle.qtt_term.specs.Signature.{Env};
+ghost use Rattle.qtt_term.specs.Judgement.{Part, Typed};
+ghost use Rattle.qtt_term.specs.Environment.{WellFormed, Complete};
+ghost use Rattle.qtt_erase.specs.ErasedUse.{NoErasedUse, Erasable};
+ghost use Rattle.qtt_lower.specs.Source.{HasWholeBodies};
+ghost use Rattle.qtt_run.specs.Code.{Lists};
+ghost use Rattle.qtt_run.specs.Laws.{TypedCodeAnswers};
+
+/// What a term of the run part mentions outside parts at 0 is there at run time; and so it is in each body that is not 0.
+pub fn typed_terms_have_no_erased_use()
+    ensures terms { (E : Env) (t A : Term) (u : Use) → Typed E Part.run [] t A u → NoErasedUse E [] t }
+    ensures bodies { (E : Env) → WellFormed E → Erasable E }
+{}
+
+/// The bodies of a well-formed environment are such as lowering asks for.
+pub fn typed_environments_have_whole_bodies()
+    ensures { (E : Env) → WellFormed E → HasWholeBodies E }
+{}
+
+/// The machine over the code of a typed environment is never stuck, and answers what full evaluation gives, a tick for a step.
+pub fn typed_code_answers()
+    ensures { (E : Env) → WellFormed E → Complete E → (ds : List GlobalId) → Lists E ds → TypedCodeAnswers E ds }
+{}

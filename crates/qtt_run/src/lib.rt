@@ -1,0 +1,4 @@
+//! Runs of typed programs as their code.
+#![tactic(auto)]
+
+pub mod laws;
