@@ -2,3 +2,9 @@ pub mod Used
 pub mod Whole
 pub mod Evaluating
 pub mod Answering
+pub mod Values
+pub mod Jumping
+pub mod Performing
+pub mod Running
+pub mod Unique
+pub mod EndToEnd
