@@ -34,15 +34,18 @@ module _ (E : Env) where
   stopped-jumps n c Outcome.stuck e = tt
 
   -- the term of the configuration that is left does not matter
-  jumps-on : (end d : ℕ) (c : full.Config) (s : Term) (r : Run) (made : ℕ) (x : Ending) → end ≡ d → Jumps end (record c { term = s }) r made x → Jumps d c r made x
+  jumps-on : (end d : ℕ) (c : full.Config) (s : Term) (r : Run) (made : ℕ) (x : Ending) → end ≡ d →
+      Jumps end (record c { term = s }) r made x → Jumps d c r made x
   jumps-on end d c s r made (Ending.value t) e (rest, p, q, v) = (rest, p ∙ e, q, v)
   jumps-on end d c s r made (Ending.trapped k) e h = h
   jumps-on end d c s r made Ending.going e h = h
   jumps-on end d c s r made Ending.stuck e h = tt
 
   continued-jumps : (left n : ℕ) (c : full.Config) (o : Outcome) → full_step E c.term ≡ o →
-      ((s : Term) → let x : Evaluation = evaluated E left (suc n) s in Jumps (suc n + left) (record c { term = s }) (run_on left E (suc n) (record c { term = s })) x.made x.ending) →
-      let x : Evaluation = continued n c.term o (evaluated E left (suc n)) in Jumps (n + suc left) c (going n c (take_turn c o) (run_on left E (suc n))) x.made x.ending
+      ((s : Term) → let x : Evaluation = evaluated E left (suc n) s in Jumps (suc n + left) (record c { term = s })
+      (run_on left E (suc n) (record c { term = s })) x.made x.ending) →
+      let x : Evaluation = continued n c.term o (evaluated E left (suc n)) in Jumps (n + suc left) c
+      (going n c (take_turn c o) (run_on left E (suc n))) x.made x.ending
   continued-jumps left n c Outcome.value e next = (suc left, refl, ap (λ o. going n c (take_turn c o) (run_on left E (suc n))) (sym e), e)
   continued-jumps left n c (Outcome.step s) e next =
       let x : Evaluation = evaluated E left (suc n) s in
@@ -50,7 +53,8 @@ module _ (E : Env) where
   continued-jumps left n c (Outcome.trap k) e next = refl
   continued-jumps left n c Outcome.stuck e next = tt
 
-  jumps : (left n : ℕ) (c : full.Config) → let x : Evaluation = evaluated E left n c.term in Jumps (n + left) c (run_on left E n c) x.made x.ending
+  jumps : (left n : ℕ) (c : full.Config) → let x : Evaluation =
+      evaluated E left n c.term in Jumps (n + left) c (run_on left E n c) x.made x.ending
   jumps zero n c = stopped-jumps n c (full_step E c.term) refl
   jumps (suc left) n c = continued-jumps left n c (full_step E c.term) refl (λ s. jumps left (suc n) (record c { term = s }))
 
@@ -75,9 +79,11 @@ module _ (E : Env) where
   shifted : (bound n k j : ℕ) (t : Term) → j ≡ n + k → Shifted n (evaluated E bound j t) (evaluated E bound k t)
   shifted zero n k j t e = stopped-shifted n k j t (full_step E t) e
   shifted (suc bound) n k j t e =
-      continued-shifted n k j t (full_step E t) (evaluated E bound (suc j)) (evaluated E bound (suc k)) e (λ s. shifted bound n (suc k) (suc j) s (omega (arith, e)))
+      continued-shifted n k j t (full_step E t) (evaluated E bound (suc j)) (evaluated E bound (suc k)) e
+      (λ s. shifted bound n (suc k) (suc j) s (omega (arith, e)))
 
-  pub jump : (left n : ℕ) (c : full.Config) → let x : Evaluation = evaluated E left 0 c.term in Jumps (n + left) c (run_on left E n c) (n + x.made) x.ending
+  pub jump : (left n : ℕ) (c : full.Config) → let x : Evaluation =
+      evaluated E left 0 c.term in Jumps (n + left) c (run_on left E n c) (n + x.made) x.ending
   jump left n c =
       let x : Evaluation = evaluated E left 0 c.term in
       let y : Evaluation = evaluated E left n c.term in
@@ -91,7 +97,8 @@ EndsTyped E A u (Ending.value t) = Has E Part.run [] t A u
 EndsTyped E A u _ = Unit {0}
 
 module _ (E : Env) (w : WellFormed E) (whole : Complete E) (A : Term) (u : Use) where
-  stopped-typed : (n : ℕ) (t : Term) (o : Outcome) → Has E Part.run [] t A u → let x : Evaluation = stopped n t o in EndsTyped E A u x.ending
+  stopped-typed : (n : ℕ) (t : Term) (o : Outcome) → Has E Part.run [] t A u →
+      let x : Evaluation = stopped n t o in EndsTyped E A u x.ending
   stopped-typed n t Outcome.value h = h
   stopped-typed n t (Outcome.step s) h = tt
   stopped-typed n t (Outcome.trap k) h = tt
@@ -105,6 +112,7 @@ module _ (E : Env) (w : WellFormed E) (whole : Complete E) (A : Term) (u : Use) 
   continued-typed bound n t (Outcome.trap k) e h next = tt
   continued-typed bound n t Outcome.stuck e h next = tt
 
-  pub ends-typed : (bound n : ℕ) (t : Term) → Has E Part.run [] t A u → let x : Evaluation = evaluated E bound n t in EndsTyped E A u x.ending
+  pub ends-typed : (bound n : ℕ) (t : Term) → Has E Part.run [] t A u →
+      let x : Evaluation = evaluated E bound n t in EndsTyped E A u x.ending
   ends-typed zero n t h = stopped-typed n t (full_step E t) h
   ends-typed (suc bound) n t h = continued-typed bound n t (full_step E t) refl h (λ s g. ends-typed bound (suc n) s g)

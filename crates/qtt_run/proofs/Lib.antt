@@ -8,3 +8,5 @@ pub mod Performing
 pub mod Running
 pub mod Unique
 pub mod EndToEnd
+pub mod Events
+pub mod Keeping

@@ -17,7 +17,8 @@ module _ (C : Program) where
   same-value e d = cc (sym e ∙ d)
 
   -- the machine stops in one way
-  same-halt : {more : ℕ} {x : Now} {s r : State} {h k : Halt} → x ≡ Now.computing s → x ≡ Now.computing r → (a : Advances C more s h) (b : Advances C more r k) →
+  same-halt : {more : ℕ} {x : Now} {s r : State} {h k : Halt} → x ≡ Now.computing s → x ≡ Now.computing r →
+      (a : Advances C more s h) (b : Advances C more r k) →
       (h ≡ k) × (a.made ≡ b.made)
   same-halt {more} {s = s} {r = r} {h = h} {k = k} e d a b =
       subst (λ r. (b : Advances C more r k) → (h ≡ k) × (a.made ≡ b.made)) (same-state e d)
@@ -55,7 +56,8 @@ module _ (C : Program) where
   one (Runs.halts e a) s (Runs.spends d b) = absurd (cc (sym e ∙ d))
   one (Runs.halts e a) s (Runs.traps d b) = absurd (cc (sym e ∙ d))
   one (Runs.halts e a) s (Runs.gives d b p x) = absurd (cc (sym e ∙ d))
-  one {n = n} {c = c} (Runs.halts {w = w} e a) s (Runs.halts {w = z} d b) = ap (λ w. seen w n c) (let t = same-turn _ e d a b in let q : w ≡ z = cc t in q)
+  one {n = n} {c = c} (Runs.halts {w = w} e a) s (Runs.halts {w = z} d b) =
+      ap (λ w. seen w n c) (let t = same-turn _ e d a b in let q : w ≡ z = cc t in q)
   one (Runs.halts e a) s (Runs.stays d b) = absurd (cc (same-turn _ e d a b))
   one (Runs.halts e a) s (Runs.acts d b x) = absurd (cc (same-turn _ e d a b))
   one (Runs.stays e a) s (Runs.spends d b) = absurd (cc (sym e ∙ d))

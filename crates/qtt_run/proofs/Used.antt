@@ -83,22 +83,28 @@ params-stay : {Ξ Θ : Tele} {σ : ℕ → Term} {ts : Terms} {js : List Judged}
 params-stay ns (ParamsThenArgs.param a) = params-stay (rest ns) a
 params-stay ns (ParamsThenArgs.done a) = args-stay ns a
 
-con-fields : (f : GlobalId) (k m : ℕ) (ds : List Constructor) (n : ℕ) (c : ConSig) → IsCon (con_sigs f k m ds) n c → mults c.fields ≡ field_mults ds n
+con-fields : (f : GlobalId) (k m : ℕ) (ds : List Constructor) (n : ℕ) (c : ConSig) → IsCon (con_sigs f k m ds) n c →
+    mults c.fields ≡ field_mults ds n
 con-fields f k m [] n c h = elim h [ ]
 con-fields f k m (d ∷ ds) zero c IsCon.here = refl
 con-fields f k m (d ∷ ds) (suc n) c (IsCon.there h) = con-fields f k (suc m) ds n c h
 
-branches-stay : (E : Env) (f : GlobalId) (q : Mult) {σ : ℕ → Term} {P : Term} (k m : ℕ) (ds : List Constructor) {ns : List ℕ} {ts : Terms} {js : List Judged} {R : Term} →
+branches-stay : (E : Env) (f : GlobalId) (q : Mult) {σ : ℕ → Term} {P : Term} (k m : ℕ) (ds : List Constructor) {ns : List ℕ} {ts : Terms}
+    {js : List Judged} {R : Term} →
     Usable Part.run q → Branches (fam_at E f) q σ P (con_sigs f k m ds) ns ts js R → StayAll ns js (branches q ds ns)
 branches-stay E f q k m [] used (Branches.scrutinee is e) = ((used, λ e. tt), tt)
-branches-stay E f q {σ} k m (d ∷ ds) used (Branches.each {n = n} e b) = ((tt, fields-fill q σ d.fields n), branches-stay E f q k (suc m) ds used b)
+branches-stay E f q {σ} k m (d ∷ ds) used (Branches.each {n = n} e b) =
+    ((tt, fields-fill q σ d.fields n), branches-stay E f q k (suc m) ds used b)
 
-cases-stay : (E : Env) (f : GlobalId) (q : Mult) {Θ : Tele} {σ : ℕ → Term} {k m : ℕ} {ns : List ℕ} {ts : Terms} {js : List Judged} {R : Term} →
-    Usable Part.run q → Cases (fam_at E f) q Θ σ k m ns ts js R → StayAll (zeros k (m ∷ ns)) js (without k (None ∷ branches q (family_at E f).constructors ns))
+cases-stay : (E : Env) (f : GlobalId) (q : Mult) {Θ : Tele} {σ : ℕ → Term} {k m : ℕ} {ns : List ℕ} {ts : Terms} {js : List Judged}
+    {R : Term} →
+    Usable Part.run q → Cases (fam_at E f) q Θ σ k m ns ts js R → StayAll (zeros k (m ∷ ns)) js
+    (without k (None ∷ branches q (family_at E f).constructors ns))
 cases-stay E f q used (Cases.param a) = cases-stay E f q used a
 cases-stay E f q used (Cases.motive a) = branches-stay E f q (length (family_at E f).params) 0 (family_at E f).constructors used a
 
-rule-stays : {E : Env} {F : Form} {ts : Terms} {js : List Judged} {R : Term} {own : Use} → Rule E Part.run F ts js R own → StayAll (binders F) js (fates E F)
+rule-stays : {E : Env} {F : Form} {ts : Terms} {js : List Judged} {R : Term} {own : Use} → Rule E Part.run F ts js R own →
+    StayAll (binders F) js (fates E F)
 rule-stays Rule.sort = tt
 rule-stays Rule.pi = tt
 rule-stays (Rule.lam {q = q}) = ((tt, λ e. (argument-fills q, tt)), tt)
@@ -142,7 +148,8 @@ run-under p 𝟙 e h = e
 run-under p ω e h = e
 
 mutual
-  clean : {E : Env} {p : Part} {Γ : Ctx} {t A : Term} {u : Use} → Has E p Γ t A u → p ≡ Part.run → (Δ : Slots) → Filled Γ Δ → NoErasedUse E Δ t
+  clean : {E : Env} {p : Part} {Γ : Ctx} {t A : Term} {u : Use} → Has E p Γ t A u → p ≡ Part.run → (Δ : Slots) → Filled Γ Δ →
+      NoErasedUse E Δ t
   clean {Γ = Γ} (Has.at_var {i = i} s m c f) e Δ h = h i s (subst (λ p. Usable p (mult_at Γ i)) e m)
   clean {E} (Has.at_node {F = F} {ts = ts} {js = js} {R = R} {own = own} r hs c f) e Δ h =
       let run : Rule E Part.run F ts js R own = subst (λ p. Rule E p F ts js R own) e r in

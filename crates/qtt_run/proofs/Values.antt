@@ -54,7 +54,8 @@ is-tape h us (Value.action a vs) e = absurd (cc e)
 is-tape h us (Value.tape n) e = cc e
 is-tape h us Value.type e = absurd (cc e)
 
-is-action : (a : Action) (us : FlatTerms) (v : Value) → flat_value v ≡ Tree.node (Operator.act a) us → (vs : Values) × (v ≡ Value.action a vs) × (flat_values vs ≡ us)
+is-action : (a : Action) (us : FlatTerms) (v : Value) → flat_value v ≡ Tree.node (Operator.act a) us →
+    (vs : Values) × (v ≡ Value.action a vs) × (flat_values vs ≡ us)
 is-action a us (Value.literal m) e = absurd (cc e)
 is-action a us (Value.con c vs) e = absurd (cc e)
 is-action a us (Value.closure b vs) e = absurd (cc e)
@@ -79,7 +80,8 @@ pub no-values : {P : Program} (vs : Values) → AllStandFor P ∅ (flat_values v
 no-values Values.none h = refl
 no-values (v ▹ vs) h = elim h [ ]
 
-pub one-value : {P : Program} (t : Lean) (vs : Values) → AllStandFor P (t ◂ ∅) (flat_values vs) → (v : Value) × (vs ≡ v ▹ Values.none) × StandsFor P t (flat_value v)
+pub one-value : {P : Program} (t : Lean) (vs : Values) → AllStandFor P (t ◂ ∅) (flat_values vs) →
+    (v : Value) × (vs ≡ v ▹ Values.none) × StandsFor P t (flat_value v)
 one-value t Values.none h = elim h [ ]
 one-value t (v ▹ vs) (AllStandFor.more h hs) = (v, ap (λ vs. v ▹ vs) (no-values vs hs), h)
 
@@ -102,7 +104,8 @@ acts m core.Value.tape e = absurd (cc e)
 acts m (core.Value.con h) e = absurd (cc e)
 acts m (core.Value.act {a = a} h) e = (a, refl, h)
 
-pub action_value : {E : Env} → BodiesClosed E → {t A : Term} {m : Io} {u : Use} → Has E Part.run [] t (IoTy m A) u → full_step E t ≡ Outcome.value →
+pub action_value : {E : Env} → BodiesClosed E → {t A : Term} {m : Io} {u : Use} → Has E Part.run [] t (IoTy m A) u →
+    full_step E t ≡ Outcome.value →
     (a : Action) × (ts : Terms) × (t ≡ Act a ts) × core.Values E (mults (act_signature a).arguments) ts
 action_value {E} bodies {t} {A} {m} h v =
     let (F, ts, e, k) = value_at bodies h v (stiff-prim_ty E (PrimTy.io_of m)) in

@@ -52,7 +52,8 @@ resume v c (k ∷ ks) = Turn.goes (record c { now = Now.computing (called k v); 
 abbrev pub read : Config → List ℕ → Turn
 read c [] = Turn.goes (record c { now = Now.gave pure_eof })
 read c (b ∷ bs) =
-    cond (is_line (line_of (b ∷ bs))) (Turn.goes (record c { now = Now.gave (pure_got (line_of (b ∷ bs))); input = after_line (b ∷ bs) })) (Turn.halts (Verdict.trapped Cause.bad_input_line))
+    cond (is_line (line_of (b ∷ bs))) (Turn.goes (record c { now = Now.gave (pure_got (line_of (b ∷ bs))); input = after_line (b ∷ bs) }))
+    (Turn.halts (Verdict.trapped Cause.bad_input_line))
 
 -- a write or a close, which gives v and is event e
 abbrev pub use_tape : Config → Value → Event → Option (List Taped) → Turn
@@ -67,7 +68,11 @@ turn c (Value.action Action.put_line (Value.literal (literal.Text s) ▹ Values.
     Turn.goes (record c { now = Now.gave pure_unit; events = c.events ++ Event.line s ∷ [] })
 turn c (Value.action Action.get_line Values.none) = read c c.input
 turn c (Value.action Action.opens (Value.literal (literal.Text s) ▹ Values.none)) =
-    Turn.goes (record c { now = Now.gave (pure_handle (length c.tapes)); events = c.events ++ Event.opened s ∷ []; tapes = c.tapes ++ new_tape s ∷ [] })
+    Turn.goes (record c {
+      now = Now.gave (pure_handle (length c.tapes));
+      events = c.events ++ Event.opened s ∷ [];
+      tapes = c.tapes ++ new_tape s ∷ [];
+    })
 turn c (Value.action Action.writes (Value.tape h ▹ Value.literal (literal.Text s) ▹ Values.none)) =
     use_tape c (pure_handle h) (Event.wrote h s) (at_open h (with_line s) c.tapes)
 turn c (Value.action Action.closes (Value.tape h ▹ Values.none)) = use_tape c pure_unit (Event.closed_tape h) (at_open h shut c.tapes)
@@ -101,14 +106,16 @@ pub data Runs (C : Program) : ℕ → ℕ → Config → Seen → Type 0 where
   traps : {more n : ℕ} {c : Config} {s : State} {k : Cause} → c.now ≡ Now.computing s → (a : Advances C more s (Halt.trapped k)) →
       Runs C more n c (seen (Verdict.trapped k) (n + a.made) c)
   -- or it gives a value, and goes on within what is left
-  gives : {more left n : ℕ} {c : Config} {s : State} {v : Value} {r : Seen} → c.now ≡ Now.computing s → (a : Advances C more s (Halt.done v)) →
+  gives : {more left n : ℕ} {c : Config} {s : State} {v : Value} {r : Seen} → c.now ≡ Now.computing s →
+      (a : Advances C more s (Halt.done v)) →
       a.made + left ≡ more → Runs C left (n + a.made) (record c { now = Now.gave v }) r → Runs C more n c r
   -- the action that was given ends the run
   halts : {more n : ℕ} {c : Config} {v : Value} {w : Verdict} → c.now ≡ Now.gave v → turn c v ≡ Turn.halts w → Runs C more n c (seen w n c)
   -- or the bound is reached before it
   stays : {n : ℕ} {c d : Config} {v : Value} → c.now ≡ Now.gave v → turn c v ≡ Turn.goes d → Runs C 0 n c (seen Verdict.running n c)
   -- or it is performed
-  acts : {more n : ℕ} {c d : Config} {v : Value} {r : Seen} → c.now ≡ Now.gave v → turn c v ≡ Turn.goes d → Runs C more (suc n) d r → Runs C (suc more) n c r
+  acts : {more n : ℕ} {c d : Config} {v : Value} {r : Seen} → c.now ≡ Now.gave v → turn c v ≡ Turn.goes d → Runs C more (suc n) d r →
+      Runs C (suc more) n c r
 
 -- where the run of a definition begins, whose first block this is
 abbrev pub start : ℕ → List ℕ → Config

@@ -1,4 +1,5 @@
 pub mod Code
 pub mod Evaluation
 pub mod CodeRun
+pub mod Beside
 pub mod Laws

@@ -11,7 +11,7 @@ ghost use Rattle.qtt_erase.specs.ErasedUse.{NoErasedUse, Erasable};
 ghost use Rattle.qtt_lower.specs.Source.{HasWholeBodies};
 ghost use Rattle.qtt_run.specs.Code.{Lists, code, first_block};
 ghost use Rattle.qtt_run.specs.CodeRun.{Seen, Runs, start};
-ghost use Rattle.qtt_run.specs.Laws.{TypedCodeAnswers, RunsAreOne, CodeRunsAsFullRuns, ClosesTapes};
+ghost use Rattle.qtt_run.specs.Laws.{TypedCodeAnswers, CodeKeepsTypes, RunsAddEvents, RunsAreOne, CodeRunsAsFullRuns, ClosesTapes};
 
 /// What a term of the run part mentions outside parts at 0 is there at run time; and so it is in each body that is not 0.
 pub fn typed_terms_have_no_erased_use()
@@ -27,6 +27,16 @@ pub fn typed_environments_have_whole_bodies()
 /// The machine over the code of a typed environment is never stuck, and answers what full evaluation gives, a tick for a step.
 pub fn typed_code_answers()
     ensures { (E : Env) → WellFormed E → Complete E → (ds : List GlobalId) → Lists E ds → TypedCodeAnswers E ds }
+{}
+
+/// A run of code stays typed: the machine answers within each bound, what it gives is an action, and this is performed.
+pub fn code_keeps_types()
+    ensures { (E : Env) → WellFormed E → Complete E → (ds : List GlobalId) → Lists E ds → CodeKeepsTypes E ds }
+{}
+
+/// The events of a run so far are a front of those of the whole run.
+pub fn runs_of_code_add_events()
+    ensures { RunsAddEvents }
 {}
 
 /// A run of code has one end.
