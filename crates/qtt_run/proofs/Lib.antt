@@ -10,3 +10,5 @@ pub mod Unique
 pub mod EndToEnd
 pub mod Events
 pub mod Keeping
+pub mod Listing
+pub mod Rows

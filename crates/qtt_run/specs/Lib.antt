@@ -3,3 +3,4 @@ pub mod Evaluation
 pub mod CodeRun
 pub mod Beside
 pub mod Laws
+pub mod Rows
