@@ -1,0 +1,14 @@
+pub mod Used
+pub mod Whole
+pub mod Evaluating
+pub mod Answering
+pub mod Values
+pub mod Jumping
+pub mod Performing
+pub mod Running
+pub mod Unique
+pub mod EndToEnd
+pub mod Events
+pub mod Keeping
+pub mod Listing
+pub mod Rows
