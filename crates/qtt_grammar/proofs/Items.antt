@@ -336,7 +336,7 @@ module _ {p : Span} (pass : Pass) (T L : Level) (Q R : LevelReader) (top : Inner
 
 -- ---- a text
 
-levels_whole : (pass : Pass) (d : ℕ) (x : Lexeme) → of starts_pattern x ≡ true → (levels_at pass (suc d)).starts_pattern x ≡ true
+pub levels_whole : (pass : Pass) (d : ℕ) (x : Lexeme) → of starts_pattern x ≡ true → (levels_at pass (suc d)).starts_pattern x ≡ true
 unfolding levels_at
 levels_whole pass d x e = among starts_pattern (pattern_starts true) refl x e
 

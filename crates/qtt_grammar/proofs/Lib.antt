@@ -27,3 +27,10 @@ pub mod ItemsAllowed
 pub mod ItemsShown
 pub mod Again
 pub mod TextForms
+pub mod TokenPlaces
+pub mod Entries
+pub mod Caps
+pub mod Parses
+pub mod Deeper
+pub mod Deepest
+pub mod BadTokens

@@ -5,6 +5,7 @@ pub mod Grammar
 pub mod Readers
 pub mod View
 pub mod Answer
+pub mod Parsed
 pub mod Examples
 pub mod Sketch
 pub mod Unplaced
