@@ -12,3 +12,4 @@ pub mod Events
 pub mod Keeping
 pub mod Listing
 pub mod Rows
+pub mod Compiled

@@ -46,7 +46,7 @@ one-listed D = lists-there (program [] ((0, D) ∷ [])) (item 0 ∷ []) (λ d h.
         Contains (item 0 ∷ []) d
     second d true e f h =
         contains-first (item 0) d [] (ap₂ (λ m i. record { «module» = record { 0 = m }; item = i }) (sym (eqb-true d.module.0 1 e))
-            (eqb-true 0 d.item f))
+        (eqb-true 0 d.item f))
     second d false e f h = elim h [ ]
 
     at : (d : GlobalId) (b : Bool) → eqb d.module.0 1 ≡ b → There (cond b (listed ((0, D) ∷ []) d.item) None) → Contains (item 0 ∷ []) d

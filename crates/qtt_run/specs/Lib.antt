@@ -4,3 +4,4 @@ pub mod CodeRun
 pub mod Beside
 pub mod Laws
 pub mod Rows
+pub mod Compiled

@@ -13,7 +13,7 @@ use Rattle.qtt_run.specs.CodeRun.{Runs, start}
 abbrev pub RunsSo : ℕ → Env → Verdict → ℕ → List Event → List Taped → Type 0
 RunsSo bound E v n es ts =
     Runs (code E (item 0 ∷ [])) bound 0 (start (first_block E (item 0 ∷ []) (item 0)) [])
-        (record { verdict = v; count = n; input = []; events = es; tapes = ts })
+    (record { verdict = v; count = n; input = []; events = es; tapes = ts })
 
 pub record CodeRows : Type 0 where
   pub handles_end : RunsSo default_steps handles Verdict.ended 14 (handle_events ++ Event.closed_tape 0 ∷ [])

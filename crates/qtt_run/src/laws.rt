@@ -4,11 +4,15 @@ ghost use Rattle.std.specs.Prelude.{List, [], ℕ};
 ghost use Rattle.qtt_base.specs.declared.place.GlobalId.{GlobalId};
 ghost use Rattle.qtt_usage.specs.Uses.{Use};
 ghost use Rattle.qtt_term.specs.Term.{Term};
+ghost use Rattle.qtt_term.specs.declared.globals.Globals.{Globals};
 ghost use Rattle.qtt_term.specs.Signature.{Env};
 ghost use Rattle.qtt_term.specs.Judgement.{Part, Typed};
 ghost use Rattle.qtt_term.specs.Environment.{WellFormed, Complete, IsMain};
 ghost use Rattle.qtt_erase.specs.ErasedUse.{NoErasedUse, Erasable};
 ghost use Rattle.qtt_lower.specs.Source.{HasWholeBodies};
+ghost use Rattle.qtt_lower.specs.declared.program.Compiled.{Compiled};
+ghost use Rattle.qtt_lower.specs.Whole.{IsProgramOf};
+ghost use Rattle.qtt_run.specs.Compiled.{IsCodeOf};
 ghost use Rattle.qtt_run.specs.Code.{Lists, code, first_block};
 ghost use Rattle.qtt_run.specs.CodeRun.{Seen, Runs, start};
 ghost use Rattle.qtt_run.specs.Laws.{TypedCodeAnswers, CodeKeepsTypes, RunsAddEvents, RunsAreOne, CodeRunsAsFullRuns, ClosesTapes};
@@ -22,6 +26,11 @@ pub fn typed_terms_have_no_erased_use()
 /// The bodies of a well-formed environment are such as lowering asks for.
 pub fn typed_environments_have_whole_bodies()
     ensures { (E : Env) → WellFormed E → HasWholeBodies E }
+{}
+
+/// What lowering a whole environment gives is its code, in the sense of the laws below.
+pub fn compiled_is_code()
+    ensures { (g : Globals) (c : Compiled) → IsProgramOf g c → IsCodeOf g c }
 {}
 
 /// The machine over the code of a typed environment is never stuck, and answers what full evaluation gives, a tick for a step.

@@ -1,0 +1,18 @@
+-- Lowering a whole environment gives its code.
+use Rattle.std.proofs.Common.{ap}
+use Rattle.qtt_term.specs.declared.globals.Globals.{Globals}
+use Rattle.qtt_term.specs.Globals.{env, definitions}
+use Rattle.qtt_term.specs.Items.{definition_id}
+use Rattle.qtt_lower.specs.declared.program.Compiled.{Compiled}
+use Rattle.qtt_lower.specs.Programs.{entry}
+use Rattle.qtt_lower.specs.Compiled.{definition_ids}
+use Rattle.qtt_lower.specs.Whole.{IsProgramOf}
+use Rattle.qtt_run.specs.Compiled.{IsCodeOf}
+use Rattle.qtt_run.proofs.Listing.{lists-there, found-listed}
+
+pub compiled-is-code : (g : Globals) (c : Compiled) → IsProgramOf g c → IsCodeOf g c
+compiled-is-code g c p = record {
+  listed = lists-there (env g) (definition_ids g) (λ d h. found-listed definition_id (λ e. e.definition) (definitions g) d h);
+  program = p.program;
+  begins = λ d. ap (λ bs. entry bs d) p.bases;
+}
