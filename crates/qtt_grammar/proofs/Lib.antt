@@ -27,3 +27,6 @@ pub mod ItemsAllowed
 pub mod ItemsShown
 pub mod Again
 pub mod TextForms
+pub mod Steps
+pub mod Written
+pub mod WrittenItems
