@@ -30,3 +30,4 @@ pub mod TextForms
 pub mod Steps
 pub mod Written
 pub mod WrittenItems
+pub mod Lexing
