@@ -72,7 +72,7 @@ name_tail-most (c ∷ cs) rest e = most_by (goes_on c (cs ++ rest)) (name_tail (
 name_tail-exact : (cs rest : List ℕ) → all_go_on cs ≡ true → Separated rest → name_tail (cs ++ rest) + 1 ≡ suc (length cs)
 name_tail-exact cs rest h s = omega (arith, all_go_on-name_tail cs rest h, name_tail-most cs rest (no_tail rest s))
 
-abbrev name_kind : List ℕ → TokenKind
+abbrev pub name_kind : List ℕ → TokenKind
 name_kind w = unwrap_or (reserved w) (kind.Name w)
 
 module _ (c : ℕ) (cs rest : List ℕ) (h : IsName c cs) (s : Separated rest) where
@@ -121,7 +121,7 @@ some_digits (d ∷ ds) n h e f = record { head = d; tail = ds; are = refl; all =
 pub decimal_digits : (n : ℕ) → n < 2 ^ 64 → Digits (fmt.decimal n) n
 decimal_digits n h = some_digits (fmt.decimal n) n (decimal_nonempty n h) (digits_decimal digits_model n h) (digits_value-decimal digits_model n h)
 
-both : (a b : Bool) → (a && b) ≡ true → (a ≡ true) × (b ≡ true)
+pub both : (a b : Bool) → (a && b) ≡ true → (a ≡ true) × (b ≡ true)
 both true true h = (refl, refl)
 both true false h = absurd cc
 both false b h = absurd cc
@@ -149,11 +149,11 @@ number_taken b d ds rest n a v s =
     ∙ ap (λ (es : List ℕ). number_of b (suc (length ds)) (decimal (d ∷ es))) (take-append_seam ds rest)
     ∙ ap (number_of b (suc (length ds))) v
 
-digit_first : (d : ℕ) (ds : List ℕ) → all_ascii_digits (d ∷ ds) ≡ true → is_ascii_digit d ≡ true
+pub digit_first : (d : ℕ) (ds : List ℕ) → all_ascii_digits (d ∷ ds) ≡ true → is_ascii_digit d ≡ true
 digit_first d ds a = (both (is_ascii_digit d) (all_ascii_digits ds) a).0
 
-no_dash : (d : ℕ) → is_ascii_digit d ≡ true → (d == 45) ≡ false
-no_dash d h = grind (arith, nat_tests)
+pub digit_no_dash : (d : ℕ) → is_ascii_digit d ≡ true → (d == 45) ≡ false
+digit_no_dash d h = grind (arith, nat_tests)
 
 pub number_piece : (d : ℕ) (ds rest : List ℕ) (n : ℕ) → all_ascii_digits (d ∷ ds) ≡ true → decimal (d ∷ ds) ≡ n → n < 2 ^ 63 → Separated rest → piece_at false (d ∷ (ds ++ rest)) ≡ Token (kind.Number (pos n)) (suc (length ds))
 unfolding piece_at
@@ -163,7 +163,7 @@ number_piece d ds rest n a v h s =
     ∙ ap (λ (b : Bool). cond b (Token (kind.Number (pos n)) (suc (length ds))) (Wrong NumberTooWide 0 (suc (length ds)))) (lt_true n (2 ^ 63) h)
 
 front_negative : (d : ℕ) (cs : List ℕ) → is_ascii_digit d ≡ true → front_of 45 (d ∷ cs) ≡ front.Negative
-front_negative d cs h = rw (no_dash d h, begins_part-ascii 45 (omega arith), h) refl
+front_negative d cs h = rw (digit_no_dash d h, begins_part-ascii 45 (omega arith), h) refl
 
 pub negative_piece : (d : ℕ) (ds rest : List ℕ) (n : ℕ) → all_ascii_digits (d ∷ ds) ≡ true → decimal (d ∷ ds) ≡ suc n → suc n ≤ 2 ^ 63 → Separated rest → piece_at false (45 ∷ d ∷ (ds ++ rest)) ≡ Token (kind.Number (negsuc n)) (suc (suc (length ds)))
 unfolding piece_at

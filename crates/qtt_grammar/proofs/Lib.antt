@@ -31,3 +31,5 @@ pub mod Steps
 pub mod Written
 pub mod WrittenItems
 pub mod Lexing
+pub mod LexedWords
+pub mod LexedTexts

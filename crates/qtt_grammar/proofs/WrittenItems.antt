@@ -44,7 +44,11 @@ pub data Item_ends (k : ℕ) (bs : List Block) : State → Type 0 where
 
 -- behind the last line feed
 pub data Finished : State → Type 0 where
-  finished : (l : Left) (e : Bool) (shut : List Block) → Finished (at l (broken 0 e shut) [] 0)
+  finished : (l : Left) (e : Bool) (shut : List Block) → Finished (at (spaced l) (broken 0 e shut) [] 0)
+
+-- what stands behind the mark that opens the module's block
+abbrev pub behind_open : Module → List Printed
+behind_open (module_text s n ns is ts) = key (codes "module") ∷ blank ∷ word (named n) ∷ (imports is ++ (items ts ++ closed ∷ line 0 ∷ []))
 
 module _ (wild : Fit (named (codes "_"))) (pass : Pass) where
   abbrev F : Tree → Type 0
@@ -156,11 +160,7 @@ module _ (wild : Fit (named (codes "_"))) (pass : Pass) where
   within_module = record { others = []; newest = block_at 1 0; are = refl; col = refl; brackets = omega arith }
 
   module_ends : (u : State) → Item_ends 0 (block_at 1 0 ∷ []) u → Goes u (closed ∷ line 0 ∷ []) Finished
-  module_ends u (item_ends l e shut d) = steps (shuts {others = []} refl) (steps (breaks 0) (stays (finished (spaced l) e (block_at 1 0 ∷ shut))))
-
-  -- what stands behind the mark that opens the module's block
-  abbrev pub behind_open : Module → List Printed
-  behind_open (module_text s n ns is ts) = key (codes "module") ∷ blank ∷ word (named n) ∷ (imports is ++ (items ts ++ closed ∷ line 0 ∷ []))
+  module_ends u (item_ends l e shut d) = steps (shuts {others = []} refl) (steps (breaks 0) (stays (finished l e (block_at 1 0 ∷ shut))))
 
   pub module_goes : (l i : ℕ) (t : Module) → formed.Module_formed Fit pass l i t → Goes (at free fresh (block_at 1 0 ∷ []) 0) (behind_open t) Finished
   module_goes l i (module_text s n ns is ts) f =

@@ -1,4 +1,4 @@
-use Rattle.qtt_grammar.proofs.Lexing.{name_piece}
+use Rattle.qtt_grammar.proofs.LexedTexts.{printed_lexed}
 use Rattle.qtt_grammar.proofs.Steps.{State}
 use Rattle.qtt_grammar.proofs.WrittenItems.{module_goes}
 use Rattle.qtt_grammar.proofs.laws.printed_texts_are_read_again.Goals as goal
