@@ -33,3 +33,4 @@ pub mod WrittenItems
 pub mod Lexing
 pub mod LexedWords
 pub mod LexedTexts
+pub mod FairTexts
