@@ -33,7 +33,7 @@ use Rattle.qtt_syntax.specs.Words.Printed.{word, blank, line, opened, next, clos
 use Rattle.qtt_grammar.specs.Sketch.{sign_kind}
 use Rattle.qtt_grammar.proofs.Forms.{same_names}
 use Rattle.std.specs.Str.{all_ascii_digits}
-use Rattle.qtt_grammar.proofs.Lexing.{both, digit_first, digit_no_dash, Separated, name_kind, name_piece, hole_piece, Digits, decimal_digits, number_piece, negative_piece, text_piece, escaped_spells, escaped_scalars, escaped_encodes, left_piece, right_piece, colon_piece, backslash_piece, end_brace_piece, brace_piece, equals_piece, dot_piece, arrow_piece, left_arrow_piece, fat_arrow_piece, letters_name}
+use Rattle.qtt_grammar.proofs.Lexing.{both, one_line, one_line-append, name_one_line, digits_one_line, escaped_one_line, digit_first, digit_no_dash, Separated, name_kind, name_piece, hole_piece, Digits, decimal_digits, number_piece, negative_piece, text_piece, escaped_spells, escaped_scalars, escaped_encodes, left_piece, right_piece, colon_piece, backslash_piece, end_brace_piece, brace_piece, equals_piece, dot_piece, arrow_piece, left_arrow_piece, fat_arrow_piece, letters_name}
 use Rattle.qtt_grammar.proofs.Lexing.Separated.{before_blank, before_line, before_bracket, before_brace}
 use Rattle.qtt_grammar.proofs.Steps.{Fit, Names, Named_well, Hole_well, Left, Loose, spaced, Sign, IsWord, Follows, Mode, State, Step, Runs, is_end_brace, begins_with_dash}
 use Rattle.qtt_grammar.proofs.Steps.Left.{free, wordy, typed, typed_blank, brace}
@@ -98,6 +98,7 @@ pub record Lexes (w : Word) (b : Left) : Type 0 where
   pub head : ℕ
   pub tail : List ℕ
   pub are : chars (spelled w) ≡ head ∷ tail
+  pub one_line : one_line (head ∷ tail) ≡ true
   pub undashed : begins_with_dash w ≡ false → (head == 45) ≡ false
   pub closes : is_end_brace w ≡ true → head ≡ 125
   pub lex : (p : Place) (rest : List ℕ) → Allows b rest → tokens_from false p 0 (chars (spelled w) ++ rest) ≡ with_front (word_tokens p w) (tokens_from false (place_after p (chars (spelled w))) 0 rest)
@@ -141,12 +142,13 @@ front_front xs ys (Err m) = refl
 
 -- ---- a word of one token
 
-single : (w : Word) (b : Left) (c : ℕ) (cs : List ℕ) → ((p : Place) → word_tokens p w ≡ word_token p w ∷ []) → IsUtf8 (spelled w) → chars (spelled w) ≡ c ∷ cs → (begins_with_dash w ≡ false → (c == 45) ≡ false) → (is_end_brace w ≡ true → c ≡ 125) → ((rest : List ℕ) → Allows b rest → piece_at false (c ∷ (cs ++ rest)) ≡ piece.Token (word_kind w) (suc (length cs))) → Lexes w b
-single w b c cs t u e d f g = record {
+single : (w : Word) (b : Left) (c : ℕ) (cs : List ℕ) → ((p : Place) → word_tokens p w ≡ word_token p w ∷ []) → IsUtf8 (spelled w) → chars (spelled w) ≡ c ∷ cs → one_line (c ∷ cs) ≡ true → (begins_with_dash w ≡ false → (c == 45) ≡ false) → (is_end_brace w ≡ true → c ≡ 125) → ((rest : List ℕ) → Allows b rest → piece_at false (c ∷ (cs ++ rest)) ≡ piece.Token (word_kind w) (suc (length cs))) → Lexes w b
+single w b c cs t u e o d f g = record {
   utf8 = u;
   head = c;
   tail = cs;
   are = e;
+  one_line = o;
   undashed = d;
   closes = f;
   lex = λ p rest a.
@@ -161,33 +163,33 @@ ascii_list (b ∷ bs) h = let g = both (nat_lt b 128) (list_all (λ x. nat_lt x 
     below : (x : ℕ) → nat_lt x 128 ≡ true → x < 128
     below x k = grind (arith, nat_tests)
 
-signed : (c : ℕ) (cs : List ℕ) (b : Left) → list_all (λ x. nat_lt x 128) (c ∷ cs) ≡ true → (is_end_brace (sign (c ∷ cs)) ≡ true → c ≡ 125) → ((rest : List ℕ) → Allows b rest → piece_at false (c ∷ (cs ++ rest)) ≡ piece.Token (sign_kind (c ∷ cs)) (suc (length cs))) → Lexes (sign (c ∷ cs)) b
-signed c cs b h f g = single (sign (c ∷ cs)) b c cs (λ p. refl) (IsUtf8-from_ascii (c ∷ cs) (ascii_list (c ∷ cs) h)) (chars-IsAscii (c ∷ cs) (ascii_list (c ∷ cs) h)) (λ e. e) f g
+signed : (c : ℕ) (cs : List ℕ) (b : Left) → list_all (λ x. nat_lt x 128) (c ∷ cs) ≡ true → one_line (c ∷ cs) ≡ true → (is_end_brace (sign (c ∷ cs)) ≡ true → c ≡ 125) → ((rest : List ℕ) → Allows b rest → piece_at false (c ∷ (cs ++ rest)) ≡ piece.Token (sign_kind (c ∷ cs)) (suc (length cs))) → Lexes (sign (c ∷ cs)) b
+signed c cs b h o f g = single (sign (c ∷ cs)) b c cs (λ p. refl) (IsUtf8-from_ascii (c ∷ cs) (ascii_list (c ∷ cs) h)) (chars-IsAscii (c ∷ cs) (ascii_list (c ∷ cs) h)) o (λ e. e) f g
 
 sign_lexes : {s : List ℕ} {b : Left} {r : Role} → Sign s b r → Lexes (sign s) b
 unfolding reserved encode
-sign_lexes module_sign = signed 109 (codes "odule") wordy refl (λ e. absurd cc) (λ rest a. name_piece 109 (codes "odule") rest (letters_name 109 (codes "odule") refl refl) a)
-sign_lexes import_sign = signed 105 (codes "mport") wordy refl (λ e. absurd cc) (λ rest a. name_piece 105 (codes "mport") rest (letters_name 105 (codes "mport") refl refl) a)
-sign_lexes data_sign = signed 100 (codes "ata") wordy refl (λ e. absurd cc) (λ rest a. name_piece 100 (codes "ata") rest (letters_name 100 (codes "ata") refl refl) a)
-sign_lexes where_sign = signed 119 (codes "here") wordy refl (λ e. absurd cc) (λ rest a. name_piece 119 (codes "here") rest (letters_name 119 (codes "here") refl refl) a)
-sign_lexes do_sign = signed 100 (codes "o") wordy refl (λ e. absurd cc) (λ rest a. name_piece 100 (codes "o") rest (letters_name 100 (codes "o") refl refl) a)
-sign_lexes let_sign = signed 108 (codes "et") wordy refl (λ e. absurd cc) (λ rest a. name_piece 108 (codes "et") rest (letters_name 108 (codes "et") refl refl) a)
-sign_lexes in_sign = signed 105 (codes "n") wordy refl (λ e. absurd cc) (λ rest a. name_piece 105 (codes "n") rest (letters_name 105 (codes "n") refl refl) a)
-sign_lexes partial_sign = signed 112 (codes "artial") wordy refl (λ e. absurd cc) (λ rest a. name_piece 112 (codes "artial") rest (letters_name 112 (codes "artial") refl refl) a)
-sign_lexes the_sign = signed 116 (codes "he") wordy refl (λ e. absurd cc) (λ rest a. name_piece 116 (codes "he") rest (letters_name 116 (codes "he") refl refl) a)
-sign_lexes left_sign = signed 40 [] free refl (λ e. absurd cc) (λ rest a. left_piece rest)
-sign_lexes dot_sign = signed 46 (codes "(") free refl (λ e. absurd cc) (λ rest a. dot_piece rest)
-sign_lexes arrow_sign = signed 45 (codes ">") free refl (λ e. absurd cc) (λ rest a. arrow_piece rest)
-sign_lexes left_arrow_sign = signed 60 (codes "-") free refl (λ e. absurd cc) (λ rest a. left_arrow_piece rest)
-sign_lexes fat_arrow_sign = signed 61 (codes ">") free refl (λ e. absurd cc) (λ rest a. fat_arrow_piece rest)
-sign_lexes colon_sign = signed 58 [] free refl (λ e. absurd cc) (λ rest a. colon_piece rest)
-sign_lexes equals_sign = signed 61 [] wordy refl (λ e. absurd cc) (λ rest a. equals_piece rest a)
-sign_lexes backslash_sign = signed 92 [] free refl (λ e. absurd cc) (λ rest a. backslash_piece rest)
-sign_lexes brace_sign = signed 123 [] brace refl (λ e. absurd cc) (λ rest a. brace_piece rest a)
-sign_lexes end_brace_sign = signed 125 [] free refl (λ e. refl) (λ rest a. end_brace_piece rest)
+sign_lexes module_sign = signed 109 (codes "odule") wordy refl refl (λ e. absurd cc) (λ rest a. name_piece 109 (codes "odule") rest (letters_name 109 (codes "odule") refl refl) a)
+sign_lexes import_sign = signed 105 (codes "mport") wordy refl refl (λ e. absurd cc) (λ rest a. name_piece 105 (codes "mport") rest (letters_name 105 (codes "mport") refl refl) a)
+sign_lexes data_sign = signed 100 (codes "ata") wordy refl refl (λ e. absurd cc) (λ rest a. name_piece 100 (codes "ata") rest (letters_name 100 (codes "ata") refl refl) a)
+sign_lexes where_sign = signed 119 (codes "here") wordy refl refl (λ e. absurd cc) (λ rest a. name_piece 119 (codes "here") rest (letters_name 119 (codes "here") refl refl) a)
+sign_lexes do_sign = signed 100 (codes "o") wordy refl refl (λ e. absurd cc) (λ rest a. name_piece 100 (codes "o") rest (letters_name 100 (codes "o") refl refl) a)
+sign_lexes let_sign = signed 108 (codes "et") wordy refl refl (λ e. absurd cc) (λ rest a. name_piece 108 (codes "et") rest (letters_name 108 (codes "et") refl refl) a)
+sign_lexes in_sign = signed 105 (codes "n") wordy refl refl (λ e. absurd cc) (λ rest a. name_piece 105 (codes "n") rest (letters_name 105 (codes "n") refl refl) a)
+sign_lexes partial_sign = signed 112 (codes "artial") wordy refl refl (λ e. absurd cc) (λ rest a. name_piece 112 (codes "artial") rest (letters_name 112 (codes "artial") refl refl) a)
+sign_lexes the_sign = signed 116 (codes "he") wordy refl refl (λ e. absurd cc) (λ rest a. name_piece 116 (codes "he") rest (letters_name 116 (codes "he") refl refl) a)
+sign_lexes left_sign = signed 40 [] free refl refl (λ e. absurd cc) (λ rest a. left_piece rest)
+sign_lexes dot_sign = signed 46 (codes "(") free refl refl (λ e. absurd cc) (λ rest a. dot_piece rest)
+sign_lexes arrow_sign = signed 45 (codes ">") free refl refl (λ e. absurd cc) (λ rest a. arrow_piece rest)
+sign_lexes left_arrow_sign = signed 60 (codes "-") free refl refl (λ e. absurd cc) (λ rest a. left_arrow_piece rest)
+sign_lexes fat_arrow_sign = signed 61 (codes ">") free refl refl (λ e. absurd cc) (λ rest a. fat_arrow_piece rest)
+sign_lexes colon_sign = signed 58 [] free refl refl (λ e. absurd cc) (λ rest a. colon_piece rest)
+sign_lexes equals_sign = signed 61 [] wordy refl refl (λ e. absurd cc) (λ rest a. equals_piece rest a)
+sign_lexes backslash_sign = signed 92 [] free refl refl (λ e. absurd cc) (λ rest a. backslash_piece rest)
+sign_lexes brace_sign = signed 123 [] brace refl refl (λ e. absurd cc) (λ rest a. brace_piece rest a)
+sign_lexes end_brace_sign = signed 125 [] free refl refl (λ e. refl) (λ rest a. end_brace_piece rest)
 
 right_lexes : Lexes (sign (codes ")")) free
-right_lexes = signed 41 [] free refl (λ e. absurd cc) (λ rest a. right_piece rest)
+right_lexes = signed 41 [] free refl refl (λ e. absurd cc) (λ rest a. right_piece rest)
 
 -- ---- names and holes
 
@@ -215,7 +217,7 @@ name_lexes : (n : List ℕ) → Named_well n → Lexes (named n) wordy
 name_lexes n f =
     let g = f.names in
     let same = same_word n f.utf8 g in
-    single (named n) wordy g.head g.tail (λ p. refl) f.utf8 g.are (λ e. no_dash g.head g.form.begins) (λ e. absurd cc)
+    single (named n) wordy g.head g.tail (λ p. refl) f.utf8 g.are (name_one_line g.head g.tail g.form) (λ e. no_dash g.head g.form.begins) (λ e. absurd cc)
     (λ rest a. name_piece g.head g.tail rest g.form a ∙ ap (λ (m : List ℕ). piece.Token (unwrap_or (reserved m) (kind.Name m)) (suc (length g.tail))) same ∙ ap (λ (k : TokenKind). piece.Token k (suc (length g.tail))) (named_kind n f.free))
 
 mark_ascii : IsAscii (63 ∷ [])
@@ -227,7 +229,7 @@ hole_lexes n f =
     let same = same_word n f.utf8 g in
     let utf8 = IsUtf8-append (63 ∷ []) n (IsUtf8-from_ascii (63 ∷ []) mark_ascii) f.utf8 in
     let are : chars (63 ∷ n) ≡ 63 ∷ g.head ∷ g.tail = chars-append (63 ∷ []) n (IsUtf8-from_ascii (63 ∷ []) mark_ascii) ∙ ap (λ (v : List ℕ). v ++ chars n) (chars-IsAscii (63 ∷ []) mark_ascii) ∙ ap (λ (v : List ℕ). 63 ∷ v) g.are in
-    single (hole_named n) wordy 63 (g.head ∷ g.tail) (λ p. refl) utf8 are (λ e. refl) (λ e. absurd cc)
+    single (hole_named n) wordy 63 (g.head ∷ g.tail) (λ p. refl) utf8 are (name_one_line g.head g.tail g.form) (λ e. refl) (λ e. absurd cc)
     (λ rest a. hole_piece g.head g.tail rest g.form a (ap names_hole same ∙ f.simple) ∙ ap (λ (m : List ℕ). piece.Token (kind.Hole m) (suc (suc (length g.tail)))) same)
 
 -- ---- numbers, texts and `Type`
@@ -245,13 +247,13 @@ numeral_lexes : (z : _) → Fit (numeral z) → Lexes (numeral z) wordy
 numeral_lexes (pos n) h =
     let g = decimal_digits n (below_64 n h) in
     let ascii = decimal_ascii n (below_64 n h) in
-    single (numeral (pos n)) wordy g.head g.tail (λ p. refl) (IsUtf8-from_ascii (fmt.decimal n) ascii) (chars-IsAscii (fmt.decimal n) ascii ∙ g.are) (λ e. digit_head (fmt.decimal n) n g) (λ e. absurd cc)
+    single (numeral (pos n)) wordy g.head g.tail (λ p. refl) (IsUtf8-from_ascii (fmt.decimal n) ascii) (chars-IsAscii (fmt.decimal n) ascii ∙ g.are) (digits_one_line (g.head ∷ g.tail) (ap all_ascii_digits (sym g.are) ∙ g.all)) (λ e. digit_head (fmt.decimal n) n g) (λ e. absurd cc)
     (λ rest a. number_piece g.head g.tail rest n (ap all_ascii_digits (sym g.are) ∙ g.all) (ap decimal (sym g.are) ∙ g.value) h a)
 numeral_lexes (negsuc n) h =
     let below : suc n < 2 ^ 64 = omega (arith, h) in
     let g = decimal_digits (suc n) below in
     let ascii = IsAscii-cons 45 (fmt.decimal (suc n)) (omega arith) (decimal_ascii (suc n) below) in
-    single (numeral (negsuc n)) wordy 45 (g.head ∷ g.tail) (λ p. refl) (IsUtf8-from_ascii (45 ∷ fmt.decimal (suc n)) ascii) (chars-IsAscii (45 ∷ fmt.decimal (suc n)) ascii ∙ ap (λ (v : List ℕ). 45 ∷ v) g.are) (λ e. absurd cc) (λ e. absurd cc)
+    single (numeral (negsuc n)) wordy 45 (g.head ∷ g.tail) (λ p. refl) (IsUtf8-from_ascii (45 ∷ fmt.decimal (suc n)) ascii) (chars-IsAscii (45 ∷ fmt.decimal (suc n)) ascii ∙ ap (λ (v : List ℕ). 45 ∷ v) g.are) (digits_one_line (g.head ∷ g.tail) (ap all_ascii_digits (sym g.are) ∙ g.all)) (λ e. absurd cc) (λ e. absurd cc)
     (λ rest a. negative_piece g.head g.tail rest n (ap all_ascii_digits (sym g.are) ∙ g.all) (ap decimal (sym g.are) ∙ g.value) h a)
 
 type_piece : (rest : List ℕ) → Separated rest → piece_at false (84 ∷ (codes "ype" ++ rest)) ≡ piece.Token kind.Type 4
@@ -259,7 +261,7 @@ unfolding reserved encode
 type_piece rest a = name_piece 84 (codes "ype") rest (letters_name 84 (codes "ype") refl refl) a
 
 type_lexes : Lexes bare_type typed
-type_lexes = single bare_type typed 84 (codes "ype") (λ p. refl) (IsUtf8-from_ascii (codes "Type") (ascii_list (codes "Type") refl)) (chars-IsAscii (codes "Type") (ascii_list (codes "Type") refl)) (λ e. refl) (λ e. absurd cc) type_piece
+type_lexes = single bare_type typed 84 (codes "ype") (λ p. refl) (IsUtf8-from_ascii (codes "Type") (ascii_list (codes "Type") refl)) (chars-IsAscii (codes "Type") (ascii_list (codes "Type") refl)) refl (λ e. refl) (λ e. absurd cc) type_piece
 
 level_steps : (l : ℕ) → l < 2 ^ 63 → (p : Place) (rest : List ℕ) → Separated rest → tokens_from false p 0 ((codes "Type " ++ fmt.decimal l) ++ rest) ≡ with_front (word_tokens p (type_at l)) (tokens_from false (place_after p (codes "Type " ++ fmt.decimal l)) 0 rest)
 level_steps l h p rest a =
@@ -281,6 +283,7 @@ level_lexes l h =
       head = 84;
       tail = codes "ype " ++ ds;
       are = are;
+      one_line = digits_one_line ds (decimal_digits l (below_64 l h)).all;
       undashed = λ e. refl;
       closes = λ e. absurd cc;
       lex = λ p rest a. subst (λ (cs : List ℕ). tokens_from false p 0 (cs ++ rest) ≡ with_front (word_tokens p (type_at l)) (tokens_from false (place_after p cs) 0 rest)) (sym are) (level_steps l h p rest a);
@@ -310,7 +313,7 @@ module _ (v : List ℕ) (u : IsUtf8 v) where
   text_spells = subst (Spells body) (encodes-chars v u) (escaped_spells (chars v))
 
   text_lexes : Lexes (quoted v) free
-  text_lexes = single (quoted v) free 34 (body ++ 34 ∷ []) (λ p. refl) text_utf8 (sym (chars_from_encodes (34 ∷ (body ++ 34 ∷ [])) (34 ∷ (flat_map escaped v ++ 34 ∷ [])) text_utf8 text_encodes)) (λ e. refl) (λ e. absurd cc) (λ rest a. text_piece body v rest text_spells)
+  text_lexes = single (quoted v) free 34 (body ++ 34 ∷ []) (λ p. refl) text_utf8 (sym (chars_from_encodes (34 ∷ (body ++ 34 ∷ [])) (34 ∷ (flat_map escaped v ++ 34 ∷ [])) text_utf8 text_encodes)) (one_line-append body (34 ∷ []) (escaped_one_line (chars v)) refl) (λ e. refl) (λ e. absurd cc) (λ rest a. text_piece body v rest text_spells)
 
 word_lexes : {w : Word} {b : Left} {r : Role} → IsWord w b r → Lexes w b
 word_lexes (a_sign i) = sign_lexes i

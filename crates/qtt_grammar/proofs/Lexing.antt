@@ -1,5 +1,5 @@
 -- Single printed words, lexed.
-use Rattle.std.proofs.Common.{◌≡◌, ◌≢◌, ℕ, zero, suc, ◌+◌, ◌*◌, ◌-◌, ◌^◌, ◌<◌, ◌≤◌, ◌==◌, ◌||◌, ◌&&◌, nat_lt, nat_le, nat_eq, pos, negsuc, neg_ℤ, Bool, true, false, cond, List, [], ◌∷◌, ◌++◌, length, get_or, take, drop, fold, Option, Some, None, Result, Ok, Err, unwrap_or, encode_utf8, refl, sym, ap, subst, ◌∙◌, append_assoc, arith, codes, inl, inr, ◌⊎◌}
+use Rattle.std.proofs.Common.{◌≡◌, ◌≢◌, ℕ, zero, suc, ◌+◌, ◌*◌, ◌-◌, ◌^◌, ◌<◌, ◌≤◌, ◌==◌, ◌||◌, ◌&&◌, not, nat_lt, nat_le, nat_eq, pos, negsuc, neg_ℤ, Bool, true, false, cond, List, [], ◌∷◌, ◌++◌, length, get_or, take, drop, fold, Option, Some, None, Result, Ok, Err, unwrap_or, encode_utf8, refl, sym, ap, subst, ◌∙◌, append_assoc, arith, codes, inl, inr, ◌⊎◌}
 use Rattle.std.proofs.lemmas.Bool.{eqb-true, eqb-false}
 use Rattle.std.proofs.lemmas.Bool.Decides.{nat_tests, eqb_tells}
 use Rattle.std.proofs.lemmas.List.{append-nil, length-append}
@@ -321,3 +321,47 @@ pub letters_name : (c : ℕ) (cs : List ℕ) → list_all is_ascii_alphabetic (c
 letters_name c cs h e =
     let g = both (is_ascii_alphabetic c) (list_all is_ascii_alphabetic cs) h in
     record { begins = letter c g.0; goes_on = letters_go_on cs g.1; short = e }
+
+-- ---- words stay on their line
+
+abbrev pub one_line : List ℕ → Bool
+one_line cs = list_all (λ c. not (c == 10)) cs
+
+pub one_line-append : (cs ds : List ℕ) → one_line cs ≡ true → one_line ds ≡ true → one_line (cs ++ ds) ≡ true
+one_line-append [] ds e f = f
+one_line-append (c ∷ cs) ds e f = let g = both (not (c == 10)) (one_line cs) e in rw (g.0, one_line-append cs ds g.1 f) refl
+
+line_case : (c : ℕ) → Told c 10 → (c ≡ 10 → ⊥) → not (c == 10) ≡ true
+line_case c (inl e) f = absurd (f e.1)
+line_case c (inr e) f = ap not e.0
+
+no_line : (c : ℕ) → (c ≡ 10 → ⊥) → not (c == 10) ≡ true
+no_line c f = line_case c (eqb_tells c 10) f
+
+goes_on-line : (cs : List ℕ) → goes_on 10 cs ≡ false
+goes_on-line cs = ap (λ (b : Bool). b || ((10 == 46) && begins begins_part cs)) (continues_part-ascii 10 (omega arith))
+
+part_line : (c : ℕ) (cs : List ℕ) (b : Bool) → goes_on c cs ≡ b → cond b (all_go_on cs) false ≡ true → (not (c == 10) ≡ true) × (all_go_on cs ≡ true)
+part_line c cs true e f = (no_line c (λ h. let g = sym (ap (λ (x : ℕ). goes_on x cs) h ∙ goes_on-line cs) ∙ e in cc), f)
+part_line c cs false e f = absurd cc
+
+parts_one_line : (cs : List ℕ) → all_go_on cs ≡ true → one_line cs ≡ true
+parts_one_line [] e = refl
+parts_one_line (c ∷ cs) e = let g = part_line c cs (goes_on c cs) refl e in rw (g.0, parts_one_line cs g.1) refl
+
+pub name_one_line : (c : ℕ) (cs : List ℕ) → IsName c cs → one_line (c ∷ cs) ≡ true
+name_one_line c cs h = rw (no_line c (λ e. let g = sym (ap begins_part e ∙ begins_part-ascii 10 (omega arith)) ∙ h.begins in cc), parts_one_line cs h.goes_on) refl
+
+digit_line : (d : ℕ) → is_ascii_digit d ≡ true → not (d == 10) ≡ true
+digit_line d h = grind (arith, nat_tests)
+
+pub digits_one_line : (ds : List ℕ) → all_ascii_digits ds ≡ true → one_line ds ≡ true
+digits_one_line [] e = refl
+digits_one_line (d ∷ ds) e = let g = both (is_ascii_digit d) (all_ascii_digits ds) e in rw (digit_line d g.0, digits_one_line ds g.1) refl
+
+line_escaped : (c : ℕ) (rest : List ℕ) → one_line rest ≡ true → one_line (escaped c ++ rest) ≡ true
+line_escaped c rest e = escapes (λ x es. one_line (es ++ rest) ≡ true) c e e e e (λ b. rw (no_line c b.0, e) refl)
+
+pub escaped_one_line : (cs : List ℕ) → one_line (flat_map escaped cs) ≡ true
+escaped_one_line [] = refl
+escaped_one_line (c ∷ cs) = line_escaped c (flat_map escaped cs) (escaped_one_line cs)
