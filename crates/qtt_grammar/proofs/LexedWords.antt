@@ -315,7 +315,7 @@ module _ (v : List ℕ) (u : IsUtf8 v) where
   text_lexes : Lexes (quoted v) free
   text_lexes = single (quoted v) free 34 (body ++ 34 ∷ []) (λ p. refl) text_utf8 (sym (chars_from_encodes (34 ∷ (body ++ 34 ∷ [])) (34 ∷ (flat_map escaped v ++ 34 ∷ [])) text_utf8 text_encodes)) (one_line-append body (34 ∷ []) (escaped_one_line (chars v)) refl) (λ e. refl) (λ e. absurd cc) (λ rest a. text_piece body v rest text_spells)
 
-word_lexes : {w : Word} {b : Left} {r : Role} → IsWord w b r → Lexes w b
+pub word_lexes : {w : Word} {b : Left} {r : Role} → IsWord w b r → Lexes w b
 word_lexes (a_sign i) = sign_lexes i
 word_lexes (a_name {n} f) = name_lexes n f
 word_lexes (a_numeral {z} f) = numeral_lexes z f

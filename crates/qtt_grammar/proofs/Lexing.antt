@@ -136,10 +136,10 @@ prefix_exact (d ∷ ds) rest e f =
     let g = both (is_ascii_digit d) (all_ascii_digits ds) e in
     ap (λ (b : Bool). cond b (1 + prefix_len is_ascii_digit (ds ++ rest)) 0) g.0 ∙ ap (λ (n : ℕ). 1 + n) (prefix_exact ds rest g.1 f) ∙ omega arith
 
-lt_true : (n m : ℕ) → n < m → nat_lt n m ≡ true
+pub lt_true : (n m : ℕ) → n < m → nat_lt n m ≡ true
 lt_true n m h = grind (arith, nat_tests)
 
-le_true : (n m : ℕ) → n ≤ m → nat_le n m ≡ true
+pub le_true : (n m : ℕ) → n ≤ m → nat_le n m ≡ true
 le_true n m h = grind (arith, nat_tests)
 
 number_taken : (b : Bool) (d : ℕ) (ds rest : List ℕ) (n : ℕ) → all_ascii_digits (d ∷ ds) ≡ true → decimal (d ∷ ds) ≡ n → Separated rest → number_at b (d ∷ (ds ++ rest)) ≡ number_of b (suc (length ds)) n

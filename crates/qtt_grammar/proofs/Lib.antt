@@ -34,3 +34,4 @@ pub mod Lexing
 pub mod LexedWords
 pub mod LexedTexts
 pub mod FairTexts
+pub mod LaidWords

@@ -1,3 +1,4 @@
+use Rattle.qtt_grammar.proofs.LaidWords.{Shown}
 use Rattle.qtt_grammar.proofs.FairTexts.{wild}
 use Rattle.qtt_grammar.proofs.LexedTexts.{printed_lexed}
 use Rattle.qtt_grammar.proofs.Steps.{State}
