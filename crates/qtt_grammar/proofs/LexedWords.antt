@@ -381,12 +381,18 @@ blanks_ascii : (n : ℕ) → IsAscii (replicate n 32)
 blanks_ascii zero = IsAscii-nil
 blanks_ascii (suc n) = IsAscii-cons 32 (replicate n 32) (omega arith) (blanks_ascii n)
 
+pub blank_chars : chars (32 ∷ []) ≡ 32 ∷ []
+blank_chars = chars-IsAscii (32 ∷ []) (ascii_list (32 ∷ []) refl)
+
+pub line_chars : (n : ℕ) → chars (10 ∷ replicate n 32) ≡ 10 ∷ replicate n 32
+line_chars n = chars-IsAscii (10 ∷ replicate n 32) (IsAscii-cons 10 (replicate n 32) (omega arith) (blanks_ascii n))
+
 line_element : (l b : Left) (n : ℕ) → Element l (line n) b
 line_element l b n =
     let ascii = IsAscii-cons 10 (replicate n 32) (omega arith) (blanks_ascii n) in
-    between l b (line n) (10 ∷ replicate n 32) (IsUtf8-from_ascii (10 ∷ replicate n 32) ascii) (chars-IsAscii (10 ∷ replicate n 32) ascii) (λ p. refl) (λ p rest. line_step p (replicate n 32 ++ rest) ∙ blanks_step n (place_behind p 10) rest) (λ rest a. line_allows l (replicate n 32 ++ rest))
+    between l b (line n) (10 ∷ replicate n 32) (IsUtf8-from_ascii (10 ∷ replicate n 32) ascii) (line_chars n) (λ p. refl) (λ p rest. line_step p (replicate n 32 ++ rest) ∙ blanks_step n (place_behind p 10) rest) (λ rest a. line_allows l (replicate n 32 ++ rest))
 
-no_chars : chars [] ≡ []
+pub no_chars : chars [] ≡ []
 unfolding chars
 no_chars = refl
 
