@@ -171,7 +171,7 @@ record Words_fit (x : Lexeme) : Type 0 where
   hole : is_hole x.class ≡ true → Fit (hole_named x.name)
 
 -- the forms of names
-data IsNamed : Class → Type 0 where
+pub data IsNamed : Class → Type 0 where
   small : IsNamed class.Small
   big : IsNamed class.Big
   small_path : IsNamed class.SmallPath
@@ -181,7 +181,7 @@ cond_named : (b : Bool) (c d : Class) → IsNamed c → IsNamed d → IsNamed (c
 cond_named true c d i j = i
 cond_named false c d i j = j
 
-name_is : (n : List ℕ) → IsNamed (name_class n)
+pub name_is : (n : List ℕ) → IsNamed (name_class n)
 name_is n = cond_named _ _ _ (cond_named _ _ _ big small) (cond_named _ _ _ big_path small_path)
 
 named_fit : (x : Lexeme) (c : Class) → x.class ≡ c → IsNamed c → Fit (named x.name) → Words_fit x

@@ -7,7 +7,7 @@ use Rattle.std.specs.Fmt as fmt
 use Rattle.std.specs.List.{prefix_len, suffix_len}
 use Rattle.std.specs.Str.{chars}
 use Rattle.qtt_base.specs.declared.place.Span.{Span}
-use Rattle.qtt_lexer.specs.Place.{place_behind, place_after}
+use Rattle.qtt_lexer.specs.Place.{start, place_behind, place_after}
 use Rattle.qtt_lexer.specs.Lexed.{token, Mistake}
 use Rattle.qtt_lexer.specs.declared.place.Place.{Place}
 use Rattle.qtt_lexer.specs.declared.token.Token.{Token}
@@ -26,7 +26,7 @@ use Rattle.qtt_syntax.specs.Words.Printed.{word, blank, line, opened, next, clos
 use Rattle.qtt_grammar.specs.Sketch.{sign_kind}
 use Rattle.qtt_grammar.proofs.Gives.{Each}
 use Rattle.qtt_grammar.proofs.Lexing.{one_line, both, lt_true, le_true}
-use Rattle.qtt_grammar.proofs.LexedWords.{blank_chars, line_chars, no_chars, word_kind, word_token, word_tokens, tokens_at, behind_written, printed_tokens, Lexes, word_lexes}
+use Rattle.qtt_grammar.proofs.LexedWords.{right_lexes, blank_chars, line_chars, no_chars, word_kind, word_token, word_tokens, tokens_at, behind_written, printed_tokens, Lexes, word_lexes}
 use Rattle.qtt_grammar.proofs.Steps.{Left, spaced, Sign, IsWord, Mode, Ready, State, Under, block_at, Step, Runs}
 use Rattle.qtt_grammar.proofs.Steps.Left.{free, wordy}
 use Rattle.qtt_grammar.proofs.Steps.Sign.{module_sign, import_sign, data_sign, where_sign, do_sign, let_sign, in_sign, partial_sign, the_sign, left_sign, dot_sign, arrow_sign, left_arrow_sign, fat_arrow_sign, colon_sign, equals_sign, backslash_sign, brace_sign, end_brace_sign}
@@ -568,3 +568,51 @@ end_laid e shut ls pre q w =
 
 finish : (u : State) (p : Place) (ls : rules.State) (pre : List Printed) (q : Place) → Finished u → Matches u p ls pre → Laid_as ls (token kind.End q [] ∷ []) (pre ++ [])
 finish u p ls pre q (finished l e shut) (w, h) = end_laid e shut ls pre q w
+
+lay_step : (x : Printed) (ps : List Printed) (s v : State) (q : Place) → Step s x v → ((p : Place) (ls : rules.State) (pre : List Printed) → Matches v p ls pre → Laid_as ls (printed_tokens p ps ++ token kind.End q [] ∷ []) (pre ++ ps)) → (p : Place) (ls : rules.State) (pre : List Printed) → Matches s p ls pre → Laid_as ls (printed_tokens p (x ∷ ps) ++ token kind.End q [] ∷ []) (pre ++ x ∷ ps)
+lay_step x ps s v q (plain_word {l} {b} {m} {bs} {k} {w} rd i f) rest p ls pre t =
+    let d = ready_due l m bs k p ls pre rd t in
+    let y = word_laid bs k p ls pre d usual_plain i in
+    let z = rest (behind_written p (word w)) y.last [] (record { blocks = y.blocks ∙ sym (append-nil bs); brackets = y.brackets; awaits = y.awaits; emits = λ s. emits_none }, y.line ∙ sym (word_line p (word_lexes i))) in
+    tokens_split ls (word_tokens p w) _ _ (pre ++ word w ∷ ps) (word_first w p ls y.last pre ps y.marks _ (y.put _) y.emits z)
+lay_step x ps s v q (opener_word {l} {b} {m} {bs} {k} {w} rd i f) rest p ls pre t =
+    let d = ready_due l m bs k p ls pre rd t in
+    let y = word_laid bs k p ls pre d usual_opener i in
+    let z = rest (behind_written p (word w)) y.last [] (record { blocks = y.blocks; brackets = y.brackets; awaits = y.awaits; emits = λ s. emits_none }, y.line ∙ sym (word_line p (word_lexes i))) in
+    tokens_split ls (word_tokens p w) _ _ (pre ++ word w ∷ ps) (word_first w p ls y.last pre ps y.marks _ (y.put _) y.emits z)
+lay_step x ps s v q (left_bracket {l} {b} {m} {bs} {k} {w} rd i f) rest p ls pre t =
+    let d = ready_due l m bs k p ls pre rd t in
+    let y = word_laid bs k p ls pre d usual_left i in
+    let z = rest (behind_written p (word w)) y.last [] (record { blocks = y.blocks ∙ sym (append-nil bs); brackets = y.brackets ∙ add-one k; awaits = y.awaits; emits = λ s. emits_none }, y.line ∙ sym (word_line p (word_lexes i))) in
+    tokens_split ls (word_tokens p w) _ _ (pre ++ word w ∷ ps) (word_first w p ls y.last pre ps y.marks _ (y.put _) y.emits z)
+lay_step x ps s v q (right_bracket {l} {shut} {bs} {k} o d u) rest p ls pre (w, h) =
+    let tok = word_token p (sign (codes ")")) in
+    let last = behind role.RightBracket ls tok (bs ++ shut) in
+    let z = rest (behind_written p (word (sign (codes ")")))) last [] (right_match bs shut k p ls pre d u w, sym (word_line p right_lexes)) in
+    word_first (sign (codes ")")) p ls last pre ps (due false (length shut) tok.span) _ (right_put bs shut k p ls pre _ d u w h) (w.emits tok.span) z
+lay_step x ps s v q (a_blank {l} {bs} {k}) rest p ls pre t = mark_split ls _ pre ps blank (rest (behind_written p blank) ls (pre ++ blank ∷ []) (blank_match l bs k p ls pre t))
+lay_step x ps s v q (breaks {l} {e} {shut} {bs} {k} n) rest p ls pre t = mark_split ls _ pre ps (line n) (rest (behind_written p (line n)) ls (pre ++ line n ∷ []) (break_match l e shut bs k n p ls pre t))
+lay_step x ps s v q (resumes {l} {n} {shut} {bs} {k} d u) rest p ls pre t = mark_split ls _ pre ps blank (rest (behind_written p blank) ls (pre ++ blank ∷ []) (resume_match l n shut bs k p ls pre d u t))
+lay_step x ps s v q (ends_item {l} {e} {shut} {bs} {k}) rest p ls pre t = mark_split ls _ pre ps next (rest (behind_written p next) ls (pre ++ next ∷ []) (end_match l e shut bs k p ls pre t))
+lay_step x ps s v q (begins_item {l} {e} {shut} {bs} {k} {n} d u) rest p ls pre t = mark_split ls _ pre ps (line n) (rest (behind_written p (line n)) ls (pre ++ line n ∷ []) (begin_match l e shut bs k n p ls pre d u t))
+lay_step x ps s v q (opens {l} {bs} {k}) rest p ls pre t = mark_split ls _ pre ps opened (rest (behind_written p opened) ls (pre ++ opened ∷ []) (open_match l bs k p ls pre t))
+lay_step x ps s v q (indents {l} {bs} {k} {n} u) rest p ls pre t = mark_split ls _ pre ps (line n) (rest (behind_written p (line n)) ls (pre ++ line n ∷ []) (indent_match l bs k n p ls pre u t))
+lay_step x ps s v q (empties {l} {bs} {k}) rest p ls pre t = mark_split ls _ pre ps closed (rest (behind_written p closed) ls (pre ++ closed ∷ []) (empty_match l bs k p ls pre t))
+lay_step x ps s v q (shuts {l} {e} {shut} {bs} {others} {x = y} {k} b) rest p ls pre t = mark_split ls _ pre ps closed (rest (behind_written p closed) ls (pre ++ closed ∷ []) (shut_match l e shut bs others y k p ls pre b t))
+
+lay : (ps : List Printed) (s u : State) → Runs s ps u → Finished u → (q p : Place) (ls : rules.State) (pre : List Printed) → Matches s p ls pre → Laid_as ls (printed_tokens p ps ++ token kind.End q [] ∷ []) (pre ++ ps)
+lay [] s u e fin q p ls pre t = finish u p ls pre q fin (subst (λ (x : State). Matches x p ls pre) e t)
+lay (x ∷ ps) s u (v, (t, r)) fin q p ls pre m = lay_step x ps s v q t (λ p ls pre n. lay ps v u r fin q p ls pre n) p ls pre m
+
+-- the first token opens the module's block
+start_due : Due (block_at 1 0 ∷ []) 0 start rules.start (opened ∷ [])
+start_due = record {
+  marks = λ s. Open s ∷ [];
+  brackets = refl;
+  put = λ t f g. ap (λ (c : ℕ). some_put (Open t.span ∷ []) (block_at c 0 ∷ [])) g;
+  emits = emits_opened;
+}
+
+-- the tokens of words that lead from a module's start to its end are laid out with the marks among the words
+pub words_laid : (ps : List Printed) (u : State) → Runs (at free fresh (block_at 1 0 ∷ []) 0) ps u → Finished u → (q : Place) → Laid_as rules.start (printed_tokens start ps ++ token kind.End q [] ∷ []) (opened ∷ ps)
+words_laid ps u r fin q = lay ps (at free fresh (block_at 1 0 ∷ []) 0) u r fin q start rules.start (opened ∷ []) start_due

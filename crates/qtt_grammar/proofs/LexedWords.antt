@@ -188,7 +188,7 @@ sign_lexes backslash_sign = signed 92 [] free refl refl (λ e. absurd cc) (λ re
 sign_lexes brace_sign = signed 123 [] brace refl refl (λ e. absurd cc) (λ rest a. brace_piece rest a)
 sign_lexes end_brace_sign = signed 125 [] free refl refl (λ e. refl) (λ rest a. end_brace_piece rest)
 
-right_lexes : Lexes (sign (codes ")")) free
+pub right_lexes : Lexes (sign (codes ")")) free
 right_lexes = signed 41 [] free refl refl (λ e. absurd cc) (λ rest a. right_piece rest)
 
 -- ---- names and holes

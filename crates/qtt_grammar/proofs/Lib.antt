@@ -35,3 +35,5 @@ pub mod LexedWords
 pub mod LexedTexts
 pub mod FairTexts
 pub mod LaidWords
+pub mod LaidLexemes
+pub mod PrintedAgain
