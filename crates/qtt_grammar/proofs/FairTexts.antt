@@ -1,5 +1,5 @@
 -- The words of each text can be written.
-use Rattle.std.proofs.Common.{◌≡◌, ℕ, zero, suc, ◌^◌, ◌<◌, ◌≤◌, ◌==◌, ◌&&◌, nat_eq, ◌⊎◌, pos, negsuc, neg_ℤ, Bool, true, false, cond, List, [], ◌∷◌, ◌++◌, Option, Some, None, Ok, unwrap_or, encode_utf8, refl, sym, ap, subst, ◌∙◌, arith, codes, inl, inr}
+use Rattle.std.proofs.Common.{◌≡◌, ℕ, zero, suc, ◌^◌, ◌≤◌, ◌==◌, ◌&&◌, nat_eq, pos, negsuc, neg_ℤ, Bool, true, false, cond, List, [], ◌∷◌, ◌++◌, Option, Some, None, Ok, unwrap_or, encode_utf8, refl, sym, ap, subst, ◌∙◌, arith, codes, inl, inr}
 use lib.Utf8.{encode}
 use Rattle.std.proofs.lemmas.Str.{IsUtf8-append, IsUtf8-nil, IsUtf8-encode, IsUtf8-from_ascii, chars-IsAscii, chars_from_encodes, scalars-chars}
 use Rattle.std.proofs.Math.Utf8.{scalar, scalars}
@@ -7,7 +7,7 @@ use Rattle.std.specs.Cmp.Lexicographic.{pointwise}
 use Rattle.std.specs.Str.{IsUtf8, chars, encode_utf8_all}
 use Rattle.qtt_base.specs.declared.place.Span.{Span}
 use Rattle.qtt_base.specs.Parts.{has_long_part}
-use Rattle.qtt_lexer.specs.Piece.{listed, reserved, reserved_words, pairs, singles, escape, names_hole}
+use Rattle.qtt_lexer.specs.Piece.{listed, reserved, reserved_words, pairs, singles, names_hole}
 use Rattle.qtt_lexer.specs.Place.{place_after}
 use Rattle.qtt_lexer.specs.Lexed.{lexed}
 use Rattle.qtt_lexer.specs.Forms.{IsName, Spells, IsToken, IsPart, Cut, AreLongest, AreSpelled, characters_of, with_token, tokens_of, IsText}
@@ -32,12 +32,12 @@ use Rattle.qtt_grammar.specs.Classes.{is_bound_or_name, is_number, is_hole, is_t
 use Rattle.qtt_grammar.specs.declared.lexeme.Lexeme.{Lexeme}
 use Rattle.qtt_grammar.specs.Lexeme.{name_class, number_class, token_lexeme, lexeme_of, takes_number, joined, lexemes}
 use Rattle.qtt_grammar.specs.Limits.{number_of}
-use Rattle.qtt_grammar.specs.Spelled.{HasForm, HaveForms}
+use Rattle.qtt_grammar.specs.Spelled.{HaveForms}
 use Rattle.qtt_grammar.proofs.Allowed.{IsFair}
 use Rattle.qtt_grammar.proofs.Gives.{Each}
 use Rattle.qtt_grammar.proofs.Lexing.{both}
 use Rattle.qtt_grammar.proofs.LexedWords.{ascii_list}
-use Rattle.qtt_grammar.proofs.Steps.{Fit, Names, Named_well, Hole_well}
+use Rattle.qtt_grammar.proofs.Steps.{Fit, Names, Hole_well}
 use Rattle.qtt_grammar.proofs.TextForms.{text_forms}
 use Rattle.qtt_grammar.proofs.Tokens.{IsNumber, number_is}
 use Rattle.qtt_grammar.proofs.Tokens.IsNumber.{zero_class, one_class, natural_class, negative_class}

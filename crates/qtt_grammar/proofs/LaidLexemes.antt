@@ -3,14 +3,12 @@ use Rattle.std.proofs.Common.{◌≡◌, ℕ, suc, ◌==◌, ◌&&◌, nat_eq, p
 use Rattle.std.proofs.lemmas.Str.{encodes-chars}
 use Rattle.std.specs.Cmp.Lexicographic.{pointwise}
 use Rattle.std.specs.Fmt as fmt
-use Rattle.std.specs.Fmt.{signed_decimal}
 use Rattle.std.specs.Str.{chars, encode_utf8_all}
 use Rattle.qtt_base.specs.declared.place.Span.{Span}
 use Rattle.qtt_lexer.specs.Place.{place_after}
 use Rattle.qtt_lexer.specs.Lexed.{token}
 use Rattle.qtt_lexer.specs.declared.place.Place.{Place}
 use Rattle.qtt_lexer.specs.declared.token.Token.{Token}
-use Rattle.qtt_lexer.specs.declared.token.TokenKind.{TokenKind}
 use Rattle.qtt_lexer.specs.declared.token.TokenKind.TheVariants as kind
 use Rattle.qtt_layout.specs.Marks.{next_before, counted}
 use Rattle.qtt_layout.specs.declared.role.Role.{Role}
@@ -20,27 +18,26 @@ use Rattle.qtt_layout.specs.declared.laid.Laid.{Laid}
 use Rattle.qtt_layout.specs.declared.laid.Laid.TheVariants.{Open, Next, Close, Tok}
 use Rattle.qtt_syntax.specs.Words.{Word, Printed, spelled}
 use Rattle.qtt_syntax.specs.Words.Word.{sign, named, numeral, bare_type, type_at, quoted, hole_named}
-use Rattle.qtt_syntax.specs.Words.Printed.{word, blank, line, opened, next, closed}
+use Rattle.qtt_syntax.specs.Words.Printed.{word, opened, next, closed}
 use Rattle.qtt_grammar.specs.Classes.{is_type, is_natural}
 use Rattle.qtt_grammar.specs.declared.class.Class.{Class}
 use Rattle.qtt_grammar.specs.declared.class.Class.TheVariants as class
 use Rattle.qtt_grammar.specs.declared.lexeme.Lexeme.{Lexeme}
 use Rattle.qtt_grammar.specs.Lexeme as lexeme
 use Rattle.qtt_grammar.specs.Lexeme.{name_class, number_class, sign_class, token_lexeme, type_lexeme, lexeme_of, takes_number, joined, lexemes}
-use Rattle.qtt_grammar.specs.Sketch.{nowhere, unplaced, named_class, sign_kind, word_lexeme, sketched}
+use Rattle.qtt_grammar.specs.Sketch.{nowhere, unplaced, word_lexeme, sketched}
 use Rattle.qtt_grammar.proofs.FairTexts.{IsNamed, name_is}
 use Rattle.qtt_grammar.proofs.FairTexts.IsNamed.{small, big, small_path, big_path}
 use Rattle.qtt_grammar.proofs.Tokens.{IsNumber, number_is}
 use Rattle.qtt_grammar.proofs.Tokens.IsNumber.{zero_class, one_class, natural_class, negative_class}
 use Rattle.qtt_grammar.proofs.Forms.{same_names}
-use Rattle.qtt_grammar.proofs.LexedWords.{word_kind, word_token, word_tokens, Lexes, word_lexes, right_lexes}
+use Rattle.qtt_grammar.proofs.LexedWords.{word_token, word_tokens, Lexes, word_lexes}
 use Rattle.qtt_grammar.proofs.LaidWords.{Shown}
-use Rattle.qtt_grammar.proofs.Steps.{Left, spaced, Sign, IsWord, Follows, Mode, Ready, State, Step, Runs, is_end_brace, is_natural_word}
-use Rattle.qtt_grammar.proofs.Steps.Left.{free, wordy, typed, typed_blank, brace}
+use Rattle.qtt_grammar.proofs.Steps.{Left, spaced, Sign, IsWord, Follows, Mode, State, Step, Runs, is_end_brace, is_natural_word}
+use Rattle.qtt_grammar.proofs.Steps.Left.{free, wordy, typed, typed_blank}
 use Rattle.qtt_grammar.proofs.Steps.Sign.{module_sign, import_sign, data_sign, where_sign, do_sign, let_sign, in_sign, partial_sign, the_sign, left_sign, dot_sign, arrow_sign, left_arrow_sign, fat_arrow_sign, colon_sign, equals_sign, backslash_sign, brace_sign, end_brace_sign}
 use Rattle.qtt_grammar.proofs.Steps.IsWord.{a_sign, a_name, a_numeral, a_type, a_level, a_text, a_hole}
 use Rattle.qtt_grammar.proofs.Steps.Mode.{inline, fresh, opener, opening, stepping, broken}
-use Rattle.qtt_grammar.proofs.Steps.Ready.{ready_inline, ready_fresh}
 use Rattle.qtt_grammar.proofs.Steps.State.{at}
 use Rattle.qtt_grammar.proofs.Steps.Step.{plain_word, opener_word, left_bracket, right_bracket, a_blank, breaks, resumes, ends_item, begins_item, opens, indents, empties, shuts}
 use Rattle.qtt_grammar.proofs.WrittenItems.{Finished}

@@ -1,5 +1,5 @@
 -- The tokens of printed words are laid out with the marks that stand among the words.
-use Rattle.std.proofs.Common.{◌≡◌, ℕ, zero, suc, ◌+◌, ◌-◌, ◌<◌, ◌≤◌, ◌==◌, ◌&&◌, not, nat_lt, nat_le, nat_eq, pos, Bool, true, false, cond, List, [], ◌∷◌, ◌++◌, map, length, take, replicate, reverse, Option, Some, None, Result, Ok, Err, slice_get, refl, sym, ap, subst, ◌∙◌, append_assoc, add-one, arith, codes}
+use Rattle.std.proofs.Common.{◌≡◌, ℕ, zero, suc, ◌+◌, ◌-◌, ◌<◌, ◌≤◌, ◌==◌, ◌&&◌, not, nat_lt, nat_le, pos, Bool, true, false, cond, List, [], ◌∷◌, ◌++◌, map, length, take, replicate, reverse, Option, Some, Result, Ok, Err, slice_get, refl, sym, ap, subst, ◌∙◌, append_assoc, add-one, arith, codes}
 use Rattle.std.proofs.lemmas.Bool.Decides.{nat_tests}
 use Rattle.std.proofs.lemmas.List.{append-nil, length-append, reverse-append, length-reverse}
 use Rattle.std.proofs.Math.Seq.{take-append_seam, take-length}
@@ -11,7 +11,6 @@ use Rattle.qtt_lexer.specs.Place.{start, place_behind, place_after}
 use Rattle.qtt_lexer.specs.Lexed.{token, Mistake}
 use Rattle.qtt_lexer.specs.declared.place.Place.{Place}
 use Rattle.qtt_lexer.specs.declared.token.Token.{Token}
-use Rattle.qtt_lexer.specs.declared.token.TokenKind.{TokenKind}
 use Rattle.qtt_lexer.specs.declared.token.TokenKind.TheVariants as kind
 use Rattle.qtt_layout.specs.Rules as rules
 use Rattle.qtt_layout.specs.Rules.{Put, role_of, newest, is_deeper, closes, without_newest, next_at, aligned, aligned_at, right_of, by_column, since_bracket, added, behind, at_end, put_before, by_put, by_role, put_from}
@@ -20,15 +19,15 @@ use Rattle.qtt_layout.specs.declared.role.Role.{Role}
 use Rattle.qtt_layout.specs.declared.role.Role.TheVariants as role
 use Rattle.qtt_layout.specs.declared.laid.Laid.{Laid}
 use Rattle.qtt_layout.specs.declared.laid.Laid.TheVariants.{Open, Next, Close, Tok}
-use Rattle.qtt_syntax.specs.Words.{Word, Printed, spelled, written_as}
+use Rattle.qtt_syntax.specs.Words.{Word, Printed}
 use Rattle.qtt_syntax.specs.Words.Word.{sign, named, numeral, bare_type, type_at, quoted, hole_named}
 use Rattle.qtt_syntax.specs.Words.Printed.{word, blank, line, opened, next, closed}
 use Rattle.qtt_grammar.specs.Sketch.{sign_kind}
 use Rattle.qtt_grammar.proofs.Gives.{Each}
 use Rattle.qtt_grammar.proofs.Lexing.{one_line, both, lt_true, le_true}
-use Rattle.qtt_grammar.proofs.LexedWords.{right_lexes, blank_chars, line_chars, no_chars, word_kind, word_token, word_tokens, tokens_at, behind_written, printed_tokens, Lexes, word_lexes}
+use Rattle.qtt_grammar.proofs.LexedWords.{right_lexes, blank_chars, line_chars, no_chars, word_kind, word_token, word_tokens, behind_written, printed_tokens, Lexes, word_lexes}
 use Rattle.qtt_grammar.proofs.Steps.{Left, spaced, Sign, IsWord, Mode, Ready, State, Under, block_at, Step, Runs}
-use Rattle.qtt_grammar.proofs.Steps.Left.{free, wordy}
+use Rattle.qtt_grammar.proofs.Steps.Left.{free}
 use Rattle.qtt_grammar.proofs.Steps.Sign.{module_sign, import_sign, data_sign, where_sign, do_sign, let_sign, in_sign, partial_sign, the_sign, left_sign, dot_sign, arrow_sign, left_arrow_sign, fat_arrow_sign, colon_sign, equals_sign, backslash_sign, brace_sign, end_brace_sign}
 use Rattle.qtt_grammar.proofs.Steps.IsWord.{a_sign, a_name, a_numeral, a_type, a_level, a_text, a_hole}
 use Rattle.qtt_grammar.proofs.Steps.Mode.{inline, fresh, opener, opening, stepping, broken}

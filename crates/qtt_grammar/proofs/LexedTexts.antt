@@ -1,12 +1,12 @@
 -- The bytes of a printed module are lexed as the tokens of its words.
-use Rattle.std.proofs.Common.{◌≡◌, ℕ, ◌<◌, nat_lt, Bool, true, false, List, [], ◌∷◌, ◌++◌, length, take, Result, Ok, Err, refl, sym, ap, ◌∙◌, arith, codes}
+use Rattle.std.proofs.Common.{◌≡◌, ℕ, nat_lt, Bool, false, List, [], ◌∷◌, ◌++◌, length, take, Ok, refl, sym, ap, ◌∙◌, arith, codes}
 use Rattle.std.proofs.lemmas.Bool.Decides.{nat_tests}
 use Rattle.std.proofs.lemmas.List.{append-nil}
 use Rattle.std.proofs.lemmas.Str.{IsUtf8-from_ascii, chars-append, chars-IsAscii, utf8_valid_len-IsUtf8}
 use Rattle.std.proofs.Math.Seq.{take-length}
 use Rattle.std.specs.Str.{IsUtf8, chars}
 use Rattle.qtt_lexer.specs.Place.{start, place_after}
-use Rattle.qtt_lexer.specs.Lexed.{tokens_from, token, with_front, without_mark, lexed, Mistake}
+use Rattle.qtt_lexer.specs.Lexed.{tokens_from, token, with_front, without_mark, lexed}
 use Rattle.qtt_lexer.specs.declared.place.Place.{Place}
 use Rattle.qtt_lexer.specs.declared.token.Token.{Token}
 use Rattle.qtt_lexer.specs.declared.token.TokenKind.TheVariants as kind
@@ -20,7 +20,7 @@ use Rattle.qtt_grammar.proofs.Steps.Mode.{fresh}
 use Rattle.qtt_grammar.proofs.Steps.State.{at}
 use Rattle.qtt_grammar.proofs.WrittenItems.{Finished, behind_open}
 use Rattle.qtt_grammar.proofs.WrittenItems.Finished.{finished}
-use Rattle.qtt_grammar.proofs.LexedWords.{Allows, Lexed, left_of, printed_tokens, ascii_list, runs_lexed}
+use Rattle.qtt_grammar.proofs.LexedWords.{Allows, left_of, printed_tokens, ascii_list, runs_lexed}
 
 not_below : (n : ℕ) → nat_lt n n ≡ false
 not_below n = grind (arith, nat_tests)

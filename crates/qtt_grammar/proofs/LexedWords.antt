@@ -1,20 +1,19 @@
 -- Printed words and what stands between them, lexed.
-use Rattle.std.proofs.Common.{◌≡◌, ℕ, zero, suc, ◌+◌, ◌^◌, ◌<◌, ◌≤◌, ◌==◌, nat_lt, nat_eq, pos, negsuc, Bool, true, false, cond, List, [], ◌∷◌, ◌++◌, length, take, drop, replicate, Option, Some, None, Result, Ok, Err, unwrap_or, refl, sym, ap, subst, ◌∙◌, append_assoc, arith, codes, inl, inr, ◌⊎◌}
+use Rattle.std.proofs.Common.{◌≡◌, ℕ, zero, suc, ◌^◌, ◌<◌, ◌==◌, nat_lt, nat_eq, pos, negsuc, Bool, true, false, cond, List, [], ◌∷◌, ◌++◌, length, drop, replicate, Option, None, Result, Ok, Err, unwrap_or, refl, sym, ap, subst, ◌∙◌, append_assoc, arith, codes, inl, inr, ◌⊎◌}
 use lib.Utf8.{encode}
 use Rattle.std.proofs.lemmas.Bool.Decides.{nat_tests, eqb_tells}
-use Rattle.std.proofs.lemmas.List.{append-nil, length-append}
+use Rattle.std.proofs.lemmas.List.{length-append}
 use Rattle.std.proofs.lemmas.List.Sums.{fold-append}
 use Rattle.std.proofs.lemmas.Fmt.{IsAscii-from_digits, decimal_is_IsNumeral}
-use Rattle.std.proofs.lemmas.Str.{IsUtf8-append, IsUtf8-nil, IsUtf8-from_ascii, chars-nil, chars-append, chars-IsAscii, chars_from_encodes, encodes-chars, encodes-append, scalars-chars, IsAscii-append}
+use Rattle.std.proofs.lemmas.Str.{IsUtf8-append, IsUtf8-nil, IsUtf8-from_ascii, chars-append, chars-IsAscii, chars_from_encodes, encodes-chars, encodes-append, scalars-chars, IsAscii-append}
 use Rattle.std.proofs.lemmas.Str.Ascii.{IsAscii-nil, IsAscii-cons}
 use Rattle.std.proofs.Math.Seq.{take-append_seam, drop-append_seam}
-use Rattle.std.proofs.Math.Utf8.{scalars}
 use Rattle.std.specs.Cmp.Lexicographic.{pointwise}
 use Rattle.std.specs.List.{list_all, flat_map}
 use Rattle.std.specs.Fmt as fmt
 use Rattle.std.specs.Str.{IsUtf8, IsAscii, chars, encode_utf8_all}
 use Rattle.qtt_lexer.specs.Characters.{begins, begins_part}
-use Rattle.qtt_lexer.specs.Forms.{IsName, Spells}
+use Rattle.qtt_lexer.specs.Forms.{Spells}
 use Rattle.qtt_lexer.specs.Piece.{is_dash, piece_at, reserved, names_hole, decimal}
 use Rattle.qtt_lexer.specs.Place.{place_behind, place_after}
 use Rattle.qtt_lexer.specs.Lexed.{tokens_from, by_piece, token, put_first, with_front, Mistake}
@@ -33,9 +32,9 @@ use Rattle.qtt_syntax.specs.Words.Printed.{word, blank, line, opened, next, clos
 use Rattle.qtt_grammar.specs.Sketch.{sign_kind}
 use Rattle.qtt_grammar.proofs.Forms.{same_names}
 use Rattle.std.specs.Str.{all_ascii_digits}
-use Rattle.qtt_grammar.proofs.Lexing.{both, one_line, one_line-append, name_one_line, digits_one_line, escaped_one_line, digit_first, digit_no_dash, Separated, name_kind, name_piece, hole_piece, Digits, decimal_digits, number_piece, negative_piece, text_piece, escaped_spells, escaped_scalars, escaped_encodes, left_piece, right_piece, colon_piece, backslash_piece, end_brace_piece, brace_piece, equals_piece, dot_piece, arrow_piece, left_arrow_piece, fat_arrow_piece, letters_name}
+use Rattle.qtt_grammar.proofs.Lexing.{both, one_line, one_line-append, name_one_line, digits_one_line, escaped_one_line, digit_first, digit_no_dash, Separated, name_piece, hole_piece, Digits, decimal_digits, number_piece, negative_piece, text_piece, escaped_spells, escaped_scalars, escaped_encodes, left_piece, right_piece, colon_piece, backslash_piece, end_brace_piece, brace_piece, equals_piece, dot_piece, arrow_piece, left_arrow_piece, fat_arrow_piece, letters_name}
 use Rattle.qtt_grammar.proofs.Lexing.Separated.{before_blank, before_line, before_bracket, before_brace}
-use Rattle.qtt_grammar.proofs.Steps.{Fit, Names, Named_well, Hole_well, Left, Loose, spaced, Sign, IsWord, Follows, Mode, State, Step, Runs, is_end_brace, begins_with_dash}
+use Rattle.qtt_grammar.proofs.Steps.{Fit, Names, Named_well, Hole_well, Left, Loose, spaced, Sign, IsWord, Follows, State, Step, Runs, is_end_brace, begins_with_dash}
 use Rattle.qtt_grammar.proofs.Steps.Left.{free, wordy, typed, typed_blank, brace}
 use Rattle.qtt_grammar.proofs.Steps.Loose.{loose_free, loose_wordy, loose_typed}
 use Rattle.qtt_grammar.proofs.Steps.Sign.{module_sign, import_sign, data_sign, where_sign, do_sign, let_sign, in_sign, partial_sign, the_sign, left_sign, dot_sign, arrow_sign, left_arrow_sign, fat_arrow_sign, colon_sign, equals_sign, backslash_sign, brace_sign, end_brace_sign}

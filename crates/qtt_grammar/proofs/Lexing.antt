@@ -1,26 +1,23 @@
 -- Single printed words, lexed.
-use Rattle.std.proofs.Common.{◌≡◌, ◌≢◌, ℕ, zero, suc, ◌+◌, ◌*◌, ◌-◌, ◌^◌, ◌<◌, ◌≤◌, ◌==◌, ◌||◌, ◌&&◌, not, nat_lt, nat_le, nat_eq, pos, negsuc, neg_ℤ, Bool, true, false, cond, List, [], ◌∷◌, ◌++◌, length, get_or, take, drop, fold, Option, Some, None, Result, Ok, Err, unwrap_or, encode_utf8, refl, sym, ap, subst, ◌∙◌, append_assoc, arith, codes, inl, inr, ◌⊎◌}
-use Rattle.std.proofs.lemmas.Bool.{eqb-true, eqb-false}
+use Rattle.std.proofs.Common.{◌≡◌, ℕ, suc, ◌+◌, ◌*◌, ◌-◌, ◌^◌, ◌<◌, ◌≤◌, ◌==◌, ◌||◌, ◌&&◌, not, nat_lt, nat_le, pos, negsuc, Bool, true, false, cond, List, [], ◌∷◌, ◌++◌, length, get_or, take, fold, Some, None, unwrap_or, encode_utf8, refl, sym, ap, subst, ◌∙◌, append_assoc, arith, codes, inl, inr, ◌⊎◌}
 use Rattle.std.proofs.lemmas.Bool.Decides.{nat_tests, eqb_tells}
 use Rattle.std.proofs.lemmas.List.{append-nil, length-append}
-use Rattle.std.proofs.Math.Seq.{take-append_seam, drop-append_seam}
+use Rattle.std.proofs.Math.Seq.{take-append_seam}
 use Rattle.std.specs.List.{list_all, prefix_len, flat_map}
 use Rattle.std.specs.Char.{is_ascii_digit, is_ascii_alphabetic}
-use Rattle.std.specs.Str.{encode_utf8_all, chars}
+use Rattle.std.specs.Str.{encode_utf8_all}
 use Rattle.qtt_base.specs.Parts.{has_long_part}
 use Rattle.qtt_lexer.specs.Characters.{begins, begins_part, continues_part, goes_on}
 use Rattle.qtt_lexer.specs.Forms.{all_go_on, IsName}
 use Rattle.qtt_lexer.specs.Piece.{is_dash, front_of, by_front, piece_at, name_tail, name_at, word_of, reserved, names_hole, bad, hole_of, hole_at, number_at, number_of, decimal, symbol_at, symbol_of}
-use Rattle.qtt_lexer.specs.declared.front.Front.{Front}
 use Rattle.qtt_lexer.specs.declared.front.Front.TheVariants as front
 use Rattle.qtt_lexer.specs.declared.token.TokenKind.{TokenKind}
 use Rattle.qtt_lexer.specs.declared.token.TokenKind.TheVariants as kind
-use Rattle.qtt_lexer.specs.declared.piece.Piece.{Piece}
-use Rattle.qtt_lexer.specs.declared.piece.Piece.TheVariants.{Gap, Token, Wrong}
+use Rattle.qtt_lexer.specs.declared.piece.Piece.TheVariants.{Token, Wrong}
 use Rattle.qtt_lexer.specs.declared.piece.Cause.TheVariants.{NameTooLong, NumberTooWide}
 use Rattle.qtt_lexer.proofs.Ascii.{begins_part-ascii, continues_part-ascii, continues_part-begins, front_of-name, front_of-number}
 use Rattle.qtt_lexer.proofs.Longest.{all_go_on-name_tail, spelled-quoted}
-use Rattle.std.proofs.lemmas.Str.{encodes-append, encode_ascii, inside_one}
+use Rattle.std.proofs.lemmas.Str.{encodes-append, inside_one}
 use Rattle.std.proofs.lemmas.Str.Parse.{FoldsDigits, IsNumeralModel, numerals_by_fold, tells_all_ascii_digits}
 use Rattle.std.proofs.lemmas.Fmt.{digits_decimal, digits_value-decimal, decimal_nonempty}
 use lib.Utf8.{encode}
@@ -31,7 +28,6 @@ use Rattle.std.specs.Fmt as fmt
 use Rattle.qtt_lexer.specs.Forms.{Spells}
 use Rattle.qtt_lexer.specs.Forms.Spells.{nothing, plain, escaped as escaped_one}
 use Rattle.qtt_lexer.specs.Piece.{quoted, text_of, pairs, singles, listed}
-use Rattle.qtt_lexer.specs.declared.quoted.Quotation.{Quotation}
 use Rattle.qtt_syntax.specs.Words.{escaped}
 
 -- ---- what ends a word

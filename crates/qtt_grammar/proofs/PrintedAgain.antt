@@ -1,10 +1,9 @@
 -- The printed text of a text's tree is read as the same tree.
-use Rattle.std.proofs.Common.{◌≡◌, ℕ, List, [], ◌∷◌, ◌++◌, map, None, Result, Ok, refl, ap, ◌∙◌, codes}
+use Rattle.std.proofs.Common.{◌≡◌, ℕ, List, [], ◌∷◌, map, None, Ok, refl, ap, ◌∙◌}
 use Rattle.std.specs.Str.{chars}
 use Rattle.qtt_lexer.specs.Place.{start, place_after}
-use Rattle.qtt_lexer.specs.Lexed.{lexed, token, Mistake}
+use Rattle.qtt_lexer.specs.Lexed.{lexed}
 use Rattle.qtt_lexer.specs.declared.token.Token.{Token}
-use Rattle.qtt_lexer.specs.declared.token.TokenKind.TheVariants as kind
 use Rattle.qtt_lexer.proofs.Cutting.{lexed-text}
 use Rattle.qtt_layout.specs.Laws.{tokens_in, kept}
 use Rattle.qtt_layout.specs.Marks.{counted}
@@ -13,7 +12,7 @@ use Rattle.qtt_layout.specs.Rules.{counted_of, laid}
 use Rattle.qtt_layout.specs.declared.laid.Laid.{Laid}
 use Rattle.qtt_syntax.specs.Tree.{Module}
 use Rattle.qtt_syntax.specs.Tree.Module.{module_text}
-use Rattle.qtt_syntax.specs.Words.{Printed, written}
+use Rattle.qtt_syntax.specs.Words.{written}
 use Rattle.qtt_syntax.specs.Words.Printed.{opened}
 use Rattle.qtt_syntax.specs.Printing.{module_words, printed}
 use Rattle.qtt_grammar.specs.declared.class.Pass.{Pass}
@@ -28,13 +27,13 @@ use Rattle.qtt_grammar.proofs.Allowed.{IsFair}
 use Rattle.qtt_grammar.proofs.Again.{formed_module, words_read_again}
 use Rattle.qtt_grammar.proofs.TextForms.{text_forms}
 use Rattle.qtt_grammar.proofs.FairTexts.{wild, fair_text}
-use Rattle.qtt_grammar.proofs.Steps.{Fit, State, block_at, Goes}
+use Rattle.qtt_grammar.proofs.Steps.{Fit, block_at, Goes}
 use Rattle.qtt_grammar.proofs.Steps.Left.{free}
 use Rattle.qtt_grammar.proofs.Steps.Mode.{fresh}
 use Rattle.qtt_grammar.proofs.Steps.State.{at}
 use Rattle.qtt_grammar.proofs.WrittenItems.{Finished, behind_open, module_goes}
 use Rattle.qtt_grammar.proofs.LexedTexts.{whole_tokens, printed_lexed}
-use Rattle.qtt_grammar.proofs.LaidWords.{Laid_as, words_laid}
+use Rattle.qtt_grammar.proofs.LaidWords.{words_laid}
 use Rattle.qtt_grammar.proofs.LaidLexemes.{shown_open, each_counts, open_lexemes, lexemes_shown}
 
 -- tokens that are laid out with the marks of printed words, which are those words for the grammar

@@ -1,15 +1,14 @@
 -- The printed words of a tree that the grammar allows lead from state to state.
-use Rattle.std.proofs.Common.{◌≡◌, ℕ, zero, suc, ◌+◌, ◌<◌, ◌≤◌, nat_eq, ◌==◌, ◌&&◌, pos, negsuc, Bool, true, false, cond, List, [], ◌∷◌, ◌++◌, refl, sym, ap, ◌∙◌, subst, arith, codes}
+use Rattle.std.proofs.Common.{◌≡◌, ℕ, suc, ◌+◌, ◌<◌, ◌≤◌, nat_eq, ◌==◌, ◌&&◌, pos, negsuc, Bool, true, false, cond, List, [], ◌∷◌, ◌++◌, refl, arith, codes}
 use Rattle.qtt_base.specs.declared.place.Span.{Span}
 use Rattle.qtt_usage.specs.declared.mult.Mult.{Mult}
 use Rattle.qtt_usage.specs.declared.mult.Mult.TheVariants as mult
 use Rattle.qtt_lexer.specs.Characters.{begins}
-use Rattle.qtt_lexer.specs.Piece.{is_dash}
 use Rattle.qtt_layout.specs.declared.block.Block.{Block}
 use Rattle.qtt_layout.specs.declared.role.Role.TheVariants as role
 use Rattle.qtt_syntax.specs.declared.expr.Mark.{Mark}
 use Rattle.qtt_syntax.specs.declared.expr.Mark.TheVariants.{Written, Braced, Inserted}
-use Rattle.qtt_syntax.specs.Tree.{Tree, Annotation, Argument, Arguments, Binder, Binders, Statement, Statements, Shape, Shapes}
+use Rattle.qtt_syntax.specs.Tree.{Tree, Annotation, Arguments, Binder, Binders, Statement, Statements}
 use Rattle.qtt_syntax.specs.Tree.Tree.{name, number, text, universe, hole, the, apply, pi, lambda, letting, doing}
 use Rattle.qtt_syntax.specs.Tree.Annotation.{untyped, typed as annotated}
 use Rattle.qtt_syntax.specs.Tree.Argument.{argument}
@@ -18,28 +17,24 @@ use Rattle.qtt_syntax.specs.Tree.Binder.{plain, typed_binder}
 use Rattle.qtt_syntax.specs.Tree.Binders.{no_binder, binder_and}
 use Rattle.qtt_syntax.specs.Tree.Statement.{bind, local, run}
 use Rattle.qtt_syntax.specs.Tree.Statements.{no_statement, statement_and}
-use Rattle.qtt_syntax.specs.Tree.Shape.{variable, wildcard, constructor, dot}
-use Rattle.qtt_syntax.specs.Tree.Shapes.{no_shape, shape_and}
 use Rattle.qtt_syntax.specs.Words.{Word, Printed}
 use Rattle.qtt_syntax.specs.Words.Word.{sign, named, numeral, bare_type, type_at, quoted, hole_named}
 use Rattle.qtt_syntax.specs.Words.Printed.{word, blank, line, opened, next, closed}
-use Rattle.qtt_syntax.specs.Printing as print
-use Rattle.qtt_syntax.specs.Printing.{key, is_number, is_atom, is_app, in_brackets, bracketed, is_level_0, atom, number_first, ends_open, broken as broken_words, parted, is_negative, app_negative, is_arrow, begins_negative, braced, marked, binding, domain, let_name, let_head, annotation_open, expr, annotation, arguments, argument_words, binders, binder, statements, more_statements, statement, is_empty, pattern, patterns}
-use Rattle.qtt_grammar.specs.declared.class.Class.{Class}
+use Rattle.qtt_syntax.specs.Printing.{key, is_number, is_atom, is_app, in_brackets, bracketed, is_level_0, atom, number_first, ends_open, broken as broken_words, parted, is_negative, app_negative, is_arrow, begins_negative, braced, marked, binding, domain, let_head, annotation_open, expr, annotation, arguments, binders, binder, statements, more_statements, statement}
 use Rattle.qtt_grammar.specs.declared.class.Pass.{Pass}
 use Rattle.qtt_grammar.proofs.Formed as formed
 use Rattle.qtt_grammar.proofs.Gives.{Each}
-use Rattle.qtt_grammar.proofs.Steps.{Fit, Left, Loose, Untyped, Blanked, spaced, Sign, IsWord, Follows, Mode, Ready, State, Under, block_at, Step, Goes, stays, steps, goes_then, goes_wider, is_end_brace, is_natural_word, begins_with_dash}
-use Rattle.qtt_grammar.proofs.Steps.Left.{free, wordy, typed, typed_blank, brace}
+use Rattle.qtt_grammar.proofs.Steps.{Fit, Left, Loose, Untyped, Blanked, spaced, Sign, Follows, Mode, Ready, State, Under, block_at, Step, Goes, stays, steps, goes_then, goes_wider, is_natural_word}
+use Rattle.qtt_grammar.proofs.Steps.Left.{free, wordy, typed, brace}
 use Rattle.qtt_grammar.proofs.Steps.Loose.{loose_free, loose_wordy, loose_typed}
 use Rattle.qtt_grammar.proofs.Steps.Untyped.{untyped_free, untyped_wordy}
 use Rattle.qtt_grammar.proofs.Steps.Blanked.{blanked_free, blanked_typed}
 use Rattle.qtt_grammar.proofs.Steps.Sign.{arrow_sign, backslash_sign, brace_sign, colon_sign, do_sign, end_brace_sign, equals_sign, fat_arrow_sign, in_sign, left_arrow_sign, left_sign, let_sign, the_sign}
 use Rattle.qtt_grammar.proofs.Steps.IsWord.{a_sign, a_name, a_numeral, a_type, a_level, a_text, a_hole}
-use Rattle.qtt_grammar.proofs.Steps.Mode.{inline, fresh, opener, opening, stepping, broken}
+use Rattle.qtt_grammar.proofs.Steps.Mode.{inline, fresh, opening}
 use Rattle.qtt_grammar.proofs.Steps.Ready.{ready_inline, ready_fresh}
 use Rattle.qtt_grammar.proofs.Steps.State.{at}
-use Rattle.qtt_grammar.proofs.Steps.Step.{plain_word, opener_word, left_bracket, right_bracket, a_blank, breaks, resumes, ends_item, begins_item, opens, indents, empties, shuts}
+use Rattle.qtt_grammar.proofs.Steps.Step.{plain_word, opener_word, left_bracket, right_bracket, a_blank, breaks, resumes, ends_item, begins_item, opens, indents, shuts}
 
 -- ---- states behind words
 

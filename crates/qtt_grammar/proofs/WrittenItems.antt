@@ -1,9 +1,7 @@
 -- The printed words of a module that the grammar allows lead from its start to its end.
-use Rattle.std.proofs.Common.{◌≡◌, ℕ, suc, ◌+◌, Bool, true, false, List, [], ◌∷◌, ◌++◌, refl, arith, codes}
-use Rattle.qtt_usage.specs.declared.mult.Mult.{Mult}
+use Rattle.std.proofs.Common.{ℕ, suc, Bool, true, false, List, [], ◌∷◌, ◌++◌, refl, arith, codes}
 use Rattle.qtt_usage.specs.declared.mult.Mult.TheVariants as mult
 use Rattle.qtt_layout.specs.declared.block.Block.{Block}
-use Rattle.qtt_layout.specs.declared.role.Role.TheVariants as role
 use Rattle.qtt_syntax.specs.declared.module.Import.{Import}
 use Rattle.qtt_syntax.specs.declared.expr.Mark.TheVariants.{Written, Braced, Inserted}
 use Rattle.qtt_syntax.specs.Tree.{Tree, Shape, Shapes, Param, Con, Item, Module, shapes}
@@ -14,26 +12,25 @@ use Rattle.qtt_syntax.specs.Tree.Param.{param}
 use Rattle.qtt_syntax.specs.Tree.Con.{con}
 use Rattle.qtt_syntax.specs.Tree.Item.{family, signature, clause}
 use Rattle.qtt_syntax.specs.Tree.Module.{module_text}
-use Rattle.qtt_syntax.specs.Words.{Word, Printed}
+use Rattle.qtt_syntax.specs.Words.{Printed}
 use Rattle.qtt_syntax.specs.Words.Word.{sign, named}
 use Rattle.qtt_syntax.specs.Words.Printed.{word, blank, line, opened, next, closed}
-use Rattle.qtt_syntax.specs.Printing.{key, in_brackets, binding, broken as broken_words, parted, ends_open, expr, pattern, patterns, params, con_words, more_cons, cons, partially, item, imports, items, module_words}
+use Rattle.qtt_syntax.specs.Printing.{key, binding, broken as broken_words, ends_open, expr, pattern, patterns, params, con_words, more_cons, cons, partially, item, imports, items}
 use Rattle.qtt_grammar.specs.declared.class.Pass.{Pass}
 use Rattle.qtt_grammar.specs.Grammar as grammar
 use Rattle.qtt_grammar.specs.Grammar.Entry.{listed}
 use Rattle.qtt_grammar.proofs.Formed as formed
 use Rattle.qtt_grammar.proofs.Gives.{Each}
-use Rattle.qtt_grammar.proofs.Steps.{Fit, Left, Loose, spaced, Ready, State, Under, block_at, Step, Goes, stays, steps, goes_then, goes_wider}
+use Rattle.qtt_grammar.proofs.Steps.{Fit, Left, spaced, Ready, State, block_at, Goes, stays, steps, goes_then, goes_wider}
 use Rattle.qtt_grammar.proofs.Steps.Left.{free, wordy, brace}
-use Rattle.qtt_grammar.proofs.Steps.Loose.{loose_wordy}
 use Rattle.qtt_grammar.proofs.Steps.Untyped.{untyped_wordy}
-use Rattle.qtt_grammar.proofs.Steps.Sign.{module_sign, import_sign, data_sign, where_sign, partial_sign, dot_sign, arrow_sign, colon_sign, equals_sign, brace_sign}
-use Rattle.qtt_grammar.proofs.Steps.IsWord.{a_sign, a_numeral}
+use Rattle.qtt_grammar.proofs.Steps.Sign.{module_sign, import_sign, data_sign, where_sign, partial_sign, dot_sign, colon_sign, equals_sign, brace_sign}
+use Rattle.qtt_grammar.proofs.Steps.IsWord.{a_sign}
 use Rattle.qtt_grammar.proofs.Steps.Mode.{inline, fresh, opening, broken}
 use Rattle.qtt_grammar.proofs.Steps.Ready.{ready_inline, ready_fresh}
 use Rattle.qtt_grammar.proofs.Steps.State.{at}
 use Rattle.qtt_grammar.proofs.Steps.Step.{opener_word, a_blank, breaks, ends_item, begins_item, opens, indents, empties, shuts}
-use Rattle.qtt_grammar.proofs.Written.{Deep, Within, Ends, Stands, Resumes, Expression, within_more, under_same, under_left, each_wider, blanked_follows, restart, keyed, opened_by, name_then, bracketed_goes, bracket_ends, parted_goes, brace_ends, binding_goes, arrow_goes, stand_ends, blank_then, item_begins, expr_goes}
+use Rattle.qtt_grammar.proofs.Written.{Deep, Within, Ends, Stands, Resumes, Expression, within_more, under_same, each_wider, blanked_follows, restart, keyed, opened_by, name_then, bracketed_goes, bracket_ends, parted_goes, brace_ends, binding_goes, arrow_goes, stand_ends, blank_then, item_begins, expr_goes}
 use Rattle.qtt_grammar.proofs.Written.Ends.{ends}
 use Rattle.qtt_grammar.proofs.Written.Stands.{stands}
 use Rattle.qtt_grammar.proofs.Written.Resumes.{resumed}
