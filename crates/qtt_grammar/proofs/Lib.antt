@@ -34,3 +34,13 @@ pub mod Parses
 pub mod Deeper
 pub mod Deepest
 pub mod BadTokens
+pub mod Steps
+pub mod Written
+pub mod WrittenItems
+pub mod Lexing
+pub mod LexedWords
+pub mod LexedTexts
+pub mod FairTexts
+pub mod LaidWords
+pub mod LaidLexemes
+pub mod PrintedAgain

@@ -2,7 +2,7 @@
 use Rattle.std.proofs.Common.{◌≡◌, ℕ, ◌<◌, ◌==◌, ◌||◌, ◌⊎◌, inl, inr, Bool, true, false, List, refl, sym, ap, ◌∙◌, arith}
 use Rattle.std.proofs.lemmas.Bool.Decides.{nat_tests, eqb_tells}
 use Rattle.std.proofs.lemmas.Bool.{eqb-true}
-use Rattle.std.specs.Char.{is_ascii_alphabetic, is_ascii_digit}
+use Rattle.std.specs.Char.{is_ascii_alphabetic, is_ascii_alphanumeric, is_ascii_digit}
 use Rattle.unicode_ident.proofs.IdentLemmas.{is_xid_start-ascii, is_xid_continue-ascii, is_xid_start-is_xid_continue}
 use Rattle.unicode_ident.specs.Ident.{is_xid_start}
 use Rattle.qtt_lexer.specs.Characters.{begins_part, continues_part}
@@ -26,6 +26,9 @@ continues_by true c e h = ap (λ (b : Bool). b || (c == 39)) (is_xid_start-is_xi
 continues_by false c e h =
     let is : c ≡ 95 = eqb-true c 95 h in
     ap continues_part is ∙ ap (λ (b : Bool). b || (95 == 39)) (is_xid_continue-ascii 95 (omega arith))
+
+pub continues_part-ascii : (c : ℕ) → c < 128 → continues_part c ≡ ((is_ascii_alphanumeric c || (c == 95)) || (c == 39))
+continues_part-ascii c h = ap (λ (b : Bool). b || (c == 39)) (is_xid_continue-ascii c h)
 
 -- what begins a part may also continue one
 pub continues_part-begins : (c : ℕ) → begins_part c ≡ true → continues_part c ≡ true

@@ -211,6 +211,15 @@ lexed-text bytes ts h =
       parts = cuts.1;
     }
 
+-- bytes that are lexed are a text
+pub lexed-utf8 : (bytes : List ℕ) (ts : List Token) → lexed bytes ≡ Ok ts → IsUtf8 bytes
+unfolding lexed
+lexed-utf8 bytes ts h =
+    let n = utf8_valid_len bytes in
+    let cs = without_mark (chars (take n bytes)) in
+    let cuts = cuts_within (length cs) (nat_lt n (length bytes)) start cs ts (omega arith) h in
+    subst IsUtf8 (whole_by bytes n (utf8_valid_len_le bytes) cuts.0) (valid_front bytes)
+
 -- a fault has a place in the text, or directly behind it
 pub lexed-place : (bytes : List ℕ) (m : Mistake) → lexed bytes ≡ Err m → HasPlace bytes m.span
 unfolding lexed

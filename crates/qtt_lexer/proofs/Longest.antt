@@ -142,7 +142,7 @@ negative_at-least broken c cs ds h =
 
 -- Texts
 
-spelled-quoted : (body value rest : List ℕ) → Spells body value → quoted (body ++ 34 ∷ rest) ≡ Closed value (length body + 1)
+pub spelled-quoted : (body value rest : List ℕ) → Spells body value → quoted (body ++ 34 ∷ rest) ≡ Closed value (length body + 1)
 spelled-quoted body value rest nothing = quoted-closed rest
 spelled-quoted body value rest (plain c ds more v h i j m e) =
     quoted-plain c (ds ++ 34 ∷ rest) h i j
