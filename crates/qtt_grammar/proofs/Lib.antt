@@ -27,3 +27,11 @@ pub mod ItemsAllowed
 pub mod ItemsShown
 pub mod Again
 pub mod TextForms
+pub mod Faultless
+pub mod Chains
+pub mod ChainReads
+pub mod ChainEnds
+pub mod ChainItems
+pub mod ChainTrees
+pub mod ChainModules
+pub mod Outcomes

@@ -15,6 +15,7 @@ ghost use Rattle.qtt_grammar.specs.declared.lexeme.Lexeme.{Lexeme};
 ghost use Rattle.qtt_grammar.specs.Lexeme.{lexemes};
 ghost use Rattle.qtt_grammar.specs.Grammar.{IsText};
 ghost use Rattle.qtt_grammar.specs.Answer.{HasAnswer};
+ghost use Rattle.qtt_grammar.specs.Outcome.{Outcome, HasOutcome};
 ghost use Rattle.qtt_grammar.specs.Sketch.{unplaced, sketched};
 ghost use Rattle.qtt_grammar.specs.Spelled.{HaveForms};
 ghost use Rattle.qtt_grammar.specs.Unplaced.{bare_module};
@@ -49,4 +50,10 @@ pub fn printed_words_are_read_again()
 /// In the tokens of a text, laid out, each name has the form of its spelling.
 pub fn names_have_forms()
     ensures { (bytes : List ℕ) (ts : List Token) (ms : List Laid) → text.IsText bytes ts → tokens_in ms ≡ kept ts → HaveForms (lexemes ms) }
+{}
+
+/// Tokens are those of a module text within every limit, or a limit is passed, also that on indices and
+/// fields, or they have a first bad token before which none is passed; and there is one such answer.
+pub fn texts_have_one_outcome()
+    ensures { (ls : List Lexeme) → (a : Outcome) × HasOutcome ls a × ((b : Outcome) → HasOutcome ls b → a ≡ b) }
 {}

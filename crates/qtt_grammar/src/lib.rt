@@ -19,6 +19,6 @@ mod typing;
 pub use class::{Class, Pass, Standing};
 pub use laws::{
     excesses_are_settled_once, first_bad_tokens_are_unique, names_have_forms,
-    printed_words_are_read_again, texts_have_one_answer, trees_are_unique,
+    printed_words_are_read_again, texts_have_one_answer, texts_have_one_outcome, trees_are_unique,
 };
 pub use stop::Excess;
