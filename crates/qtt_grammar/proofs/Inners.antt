@@ -7,9 +7,11 @@ use Rattle.qtt_syntax.specs.Tree.{Tree, Statement}
 use Rattle.qtt_syntax.specs.Tree.Tree.{name, hole}
 use Rattle.qtt_syntax.specs.Tree.Annotation.{untyped}
 use Rattle.qtt_syntax.specs.Tree.Binder.{plain}
+use Rattle.qtt_usage.specs.declared.mult.Mult.{Mult}
 use Rattle.qtt_usage.specs.declared.mult.Mult.TheVariants as mult
-use Rattle.qtt_phrase.specs.Phrase.{◌then◌, Making, ◌or◌, Many, Perhaps, Placed, opens, first}
-use Rattle.qtt_phrase.specs.Reading.{Kind, Read, Reader, ◌>>=◌, begins, either_at, making_at, placed_at}
+use Rattle.qtt_syntax.specs.declared.expr.Local.{Local}
+use Rattle.qtt_phrase.specs.Phrase.{Token, ◌then◌, Making, ◌or◌, Many, Perhaps, Placed, opens, first}
+use Rattle.qtt_phrase.specs.Reading.{Kind, Read, Reader, ◌>>=◌, begins, either_at, token_at, then_at, making_at, placed_at}
 use Rattle.qtt_phrase.specs.Reading.Kind.{unexpected}
 use Rattle.qtt_phrase.specs.Reading.Read.{got, bad, over}
 use Rattle.qtt_phrase.proofs.Exact.{Stops, Judged, Exact, Sample, Started, Begins, Choice, nothing, or_exact, begins_token, begins_making, begins_chain, begins_placed, begins_wider, begins_or, opens_both}
@@ -22,8 +24,8 @@ use Rattle.qtt_grammar.specs.declared.lexeme.Lexeme.{Lexeme}
 use Rattle.qtt_grammar.specs.Lexeme.{sign, word}
 use Rattle.qtt_grammar.specs.declared.stop.Excess.{Excess}
 use Rattle.qtt_grammar.specs.Limits.{excess_of}
-use Rattle.qtt_grammar.specs.Grammar.{Says, of, place, word_of, typed_of, lambda_of, let_parts, do_of, bracket_of, the_of, named_app_of, other_app_of, arrow_of, pi_of, Typed, Bracket, OtherAtom, IsAtom, IsMark, The, NamedApp, OtherApp, IsBinder, IsAnnotation, Symbol, Opening, local_of, named_of, mult_of, pattern_word, Counted, Up_to, let_statement_of, after_in, bind_of, run_of, implicit_of, group_of, nested_of, bracketed_of, dot_of, bare_of, standing_of, may_end, Level, Hole, Lambda, Doing, Pi, Arrow, OtherExpr, IsExpr, LetStatement, Binding, IsStatement, Implicit, IsTyping, Inside, Bracketed, Dot, OtherPattern, IsPattern, Shape_of, Simple_level, levels}
-use Rattle.qtt_grammar.specs.Readers.{LevelReader, begins_binder, begins_bind, statement_starts, pattern_starts, up_to_at, pi_at, arrow_at, other_expr_at, expr_at, let_statement_at, binding_at, statement_at, implicit_at, typing_at, patterns_at, inside_at, bracketed_at, dot_at, other_pattern_at, pattern_at, level_at, simple_reader, levels_at}
+use Rattle.qtt_grammar.specs.Grammar.{Says, of, place, word_of, typed_of, lambda_of, let_parts, do_of, bracket_of, the_of, named_app_of, other_app_of, arrow_of, pi_of, Typed, Bracket, OtherAtom, IsAtom, IsMark, The, NamedApp, OtherApp, IsBinder, IsAnnotation, Symbol, Opening, local_of, named_of, Locally, mult_of, pattern_word, Counted, Up_to, let_statement_of, after_in, bind_of, run_of, implicit_of, group_of, nested_of, bracketed_of, dot_of, bare_of, standing_of, may_end, Level, Hole, Lambda, Doing, Pi, Arrow, OtherExpr, IsExpr, LetStatement, Binding, IsStatement, Implicit, IsTyping, Inside, Bracketed, Dot, OtherPattern, IsPattern, Shape_of, Simple_level, levels}
+use Rattle.qtt_grammar.specs.Readers.{symbol_at, opener_at, local_at, LevelReader, begins_binder, begins_bind, statement_starts, pattern_starts, up_to_at, pi_at, arrow_at, other_expr_at, expr_at, let_statement_at, binding_at, statement_at, implicit_at, typing_at, patterns_at, inside_at, bracketed_at, dot_at, other_pattern_at, pattern_at, level_at, simple_reader, levels_at}
 use Rattle.qtt_grammar.proofs.Decide.{apart, among, every, implies}
 use Rattle.qtt_grammar.proofs.Sets.{goes, starts_arrow, starts_other, starts_expr, starts_typing, starts_other_pattern, goes_or_in, halts, At}
 use Rattle.qtt_grammar.proofs.Looks.{Looks, other_looks, expr_looks}
@@ -66,11 +68,10 @@ hole_starts may true _ e i = absurd cc
 hole_starts may false c e i = absurd cc
 
 -- behind "{" another level may open, since its own did
-implicit_reads : {p : Span} (pass : Pass) (may : Bool) (L : Level) (R : LevelReader) (inner : Inner p L R) → Reads (At p) (Implicit pass may L) (of is_left_brace) (of goes) (implicit_at pass may R)
-unfolding implicit_at
-implicit_reads {p} pass true L R inner =
-    let to = seq (opener true is_arrow) inner.typing.exact inner.typing_some in
-    let to_some = sample_then (sample_token (opens true (of is_arrow)) place (sign class.Arrow p) refl) inner.typing_some in
+pub braces_reads : {p : Span} {A B : Type 0} (may : Bool) (L : Level) (R : LevelReader) (inner : Inner p L R) (f : Span × (Mult × (Local × (Span × (Tree × (Span × (Span × A)))))) → B) {P : Says A} {r : Reader Lexeme Excess A} → Exact (At p) P (of goes) r → Sample (At p) P → Reads (At p) (Making f (Opening may is_left_brace then Token (of is_zero) (λ x. mult_of x.class) then Locally is_simple then Symbol is_colon then L.expr false then Symbol is_right_brace then Opening may is_arrow then P)) (of is_left_brace) (of goes) (making_at f (then_at (opener_at may is_left_brace) (then_at (token_at (λ _. None) (of is_zero) (λ x. mult_of x.class)) (then_at (local_at is_simple) (then_at (symbol_at is_colon) (then_at (R.expr false) (then_at (symbol_at is_right_brace) (then_at (opener_at may is_arrow) r))))))))
+braces_reads {p} true L R inner f ex some =
+    let to = seq (opener true is_arrow) ex some in
+    let to_some = sample_then (sample_token (opens true (of is_arrow)) place (sign class.Arrow p) refl) some in
     let close = seq (symbol is_right_brace) to.exact to_some in
     let close_some = sample_then (symbol_some is_right_brace class.RightBrace refl) to_some in
     let type = join (inner.expr false) close close_some (apart goes is_right_brace refl) in
@@ -81,8 +82,12 @@ implicit_reads {p} pass true L R inner =
     let named_some = sample_then (locally_some is_simple class.Small refl) colon_some in
     let zero = seq (tok (of is_zero) (λ x. mult_of x.class)) named.exact named_some in
     let zero_some = sample_then (sample_token (of is_zero) (λ x. mult_of x.class) (sign class.Zero p) refl) named_some in
-    make implicit_of (seq (opener true is_left_brace) zero.exact zero_some)
-implicit_reads {p} pass false L R inner = make implicit_of (shut (At p) (of is_left_brace) place _ _ (of goes))
+    make f (seq (opener true is_left_brace) zero.exact zero_some)
+braces_reads {p} false L R inner f ex some = make f (shut (At p) (of is_left_brace) place _ _ (of goes))
+
+implicit_reads : {p : Span} (pass : Pass) (may : Bool) (L : Level) (R : LevelReader) (inner : Inner p L R) → Reads (At p) (Implicit pass may L) (of is_left_brace) (of goes) (implicit_at pass may R)
+unfolding implicit_at
+implicit_reads pass may L R inner = braces_reads may L R inner implicit_of inner.typing.exact inner.typing_some
 
 opens_here : {T : Type 0} (may : Bool) (is : T → Bool) (x : T) → may ≡ true → is x ≡ true → opens may is x ≡ true
 opens_here true is x h e = e
@@ -510,7 +515,7 @@ module _ {p : Span} (pass : Pass) (may : Bool) (L : Level) (R : LevelReader) (in
 
 -- ---- all levels
 
-simple_inner : (p : Span) → Inner p Simple_level simple_reader
+pub simple_inner : (p : Span) → Inner p Simple_level simple_reader
 simple_inner p =
     let x = word class.Small p (codes "a") in
     let named = make name (tok (of is_name) named_of) in
@@ -531,7 +536,7 @@ simple_inner p =
       other_pattern_some = record { tokens = x ∷ []; value = pattern_word class.Small x; fault = None; means = (x, refl, refl, refl, refl); mild = tt };
     }
 
-levels_looks : (pass : Pass) (d : ℕ) → Looks ((levels_at pass d).expr false)
+pub levels_looks : (pass : Pass) (d : ℕ) → Looks ((levels_at pass d).expr false)
 unfolding levels_at
 levels_looks pass zero = expr_looks pass false simple_reader false
 levels_looks pass (suc d) = expr_looks pass true (levels_at pass d) false

@@ -72,7 +72,7 @@ module _ {p : Span} (pass : Pass) (T L : Level) (Q R : LevelReader) (top : Inner
   unfolding sample_making sample_then sample_token
   param_starts x e = let s = sample_making param_of (sample_then (sample_token (opens true (of is_left_paren)) place x e) rest_some) in record { more = rest_some.tokens; value = s.value; fault = s.fault; means = s.means }
 
-  params_exact : (n : ℕ) → Exact (At p) (Counted pass quantity.Parts n (IsParam pass T L)) (of is_left_paren) (params_at pass Q R n)
+  pub params_exact : (n : ℕ) → Exact (At p) (Counted pass quantity.Parts n (IsParam pass T L)) (of is_left_paren) (params_at pass Q R n)
   unfolding params_at
   params_exact n = counted (λ n _. suc n) (λ n. Up_to pass quantity.Parts n (IsParam pass T L)) (of is_left_paren) (λ n. up_to pass quantity.Parts (λ _. unexpected) n param_reads param_starts) (λ x e. refl) (among_self (of is_left_paren)) (nothing_among (of is_left_paren)) n
 
@@ -179,7 +179,7 @@ module _ {p : Span} (pass : Pass) (T L : Level) (Q R : LevelReader) (top : Inner
   partial_rest_some : Sample (At p) (Perhaps None (Making Some (Symbol is_next)) then IsZero then Locally is_simple then Symbol is_colon then T.typing)
   partial_rest_some = sample_then (sample_none None (Making Some (Symbol is_next))) (sample_then zero_some named_typing_some)
 
-  partial_reads : Reads (At p) (Partial pass T L) (of is_partial) (of goes) (partial_at pass Q R)
+  pub partial_reads : Reads (At p) (Partial pass T L) (of is_partial) (of goes) (partial_at pass Q R)
   unfolding partial_at
   partial_reads =
       let gap = maybe None (of is_next) (make Some (symbol is_next)) (among_self (of is_next)) (nothing_among (of is_next)) in
@@ -190,7 +190,7 @@ module _ {p : Span} (pass : Pass) (T L : Level) (Q R : LevelReader) (top : Inner
   unfolding sample_making sample_then sample_token
   partial_starts x e = let s = sample_making partial_of (sample_then (sample_token (of is_partial) place x e) partial_rest_some) in record { more = partial_rest_some.tokens; value = s.value; fault = s.fault; means = s.means }
 
-  erased_reads : Reads (At p) (Erased pass T L) (of is_zero) (of goes) (erased_at pass Q R)
+  pub erased_reads : Reads (At p) (Erased pass T L) (of is_zero) (of goes) (erased_at pass Q R)
   unfolding erased_at
   erased_reads = make erased_of (seq (symbol is_zero) named_typing.exact named_typing_some)
 
@@ -264,7 +264,7 @@ module _ {p : Span} (pass : Pass) (T L : Level) (Q R : LevelReader) (top : Inner
   signing_some : (at : Place) (n : Local) → Sample (At p) (Signing pass T L n or Clause pass T L at n)
   signing_some at n = let s = typing_some in record { tokens = s.tokens; value = signature_of n s.value; fault = s.fault; means = inl (s.value, s.means, refl); mild = s.mild }
 
-  defining_reads : (at : Place) → Reads (At p) (Defining pass T L at) (of is_simple) (of goes) (defining_at pass Q R at)
+  pub defining_reads : (at : Place) → Reads (At p) (Defining pass T L at) (of is_simple) (of goes) (defining_at pass Q R at)
   unfolding defining_at
   defining_reads at = make second (bind (locally is_simple) (λ n. (alt (of goes) (signing_reads n) (clause_reads at n) (apart is_colon starts_equation refl) (among_self (of goes)) (among_self (of goes))).exact) (λ us n o m. signing_some at n) (λ n. leads_nothing))
 

@@ -4,7 +4,7 @@ use Rattle.qtt_base.specs.declared.place.Span.{Span}
 use Rattle.qtt_base.specs.declared.limits.Quantity.{Quantity}
 use Rattle.qtt_base.specs.declared.limits.Quantity.TheVariants as quantity
 use Rattle.qtt_usage.specs.declared.mult.Mult.TheVariants as mult
-use Rattle.qtt_syntax.specs.Tree.{Tree, Binder, Statement}
+use Rattle.qtt_syntax.specs.Tree.{Binder, Statement}
 use Rattle.qtt_syntax.specs.Tree.Tree.{name, hole}
 use Rattle.qtt_syntax.specs.Tree.Annotation.{untyped}
 use Rattle.qtt_syntax.specs.Tree.Binder.{plain}
@@ -118,7 +118,7 @@ and_false false b e = refl
 pub block_sample : {p : Span} {A B : Type 0} {P : Says A} {Q : A → Says B} (a : Sample (At p) P) → ((x : A) → Sample (At p) (Q x)) → Sample (At p) (Chain P Q)
 block_sample {p} a f = let b = f a.value in record { tokens = a.tokens ++ b.tokens; value = (a.value, b.value); fault = first a.fault b.fault; means = (a.tokens, b.tokens, a.fault, b.fault, refl, a.means, b.means, refl); mild = mild_first (At p) a.fault b.fault a.mild b.mild }
 
-arrow_some : (p : Span) (P : Says Tree) → Sample (At p) P → (may : Bool) → may ≡ true → Sample (At p) (Opening may is_arrow then P)
+pub arrow_some : {A : Type 0} (p : Span) (P : Says A) → Sample (At p) P → (may : Bool) → may ≡ true → Sample (At p) (Opening may is_arrow then P)
 arrow_some p P s true e = sample_then (sample_token (opens true (of is_arrow)) place (sign class.Arrow p) refl) s
 arrow_some p P s false e = absurd cc
 

@@ -44,3 +44,11 @@ pub mod FairTexts
 pub mod LaidWords
 pub mod LaidLexemes
 pub mod PrintedAgain
+pub mod Faultless
+pub mod Chains
+pub mod ChainReads
+pub mod ChainEnds
+pub mod ChainItems
+pub mod ChainTrees
+pub mod ChainModules
+pub mod Outcomes

@@ -12,20 +12,20 @@ use Rattle.qtt_syntax.specs.Tree.{Module}
 use Rattle.qtt_grammar.specs.declared.class.Pass.{Pass}
 use Rattle.qtt_grammar.specs.declared.stop.Excess.{Excess}
 use Rattle.qtt_grammar.specs.declared.lexeme.Lexeme.{Lexeme}
-use Rattle.qtt_grammar.specs.Grammar.{IsText}
+use Rattle.qtt_grammar.specs.Grammar.{Says, IsText}
 use Rattle.qtt_grammar.specs.Readers.{text_at}
 use Rattle.qtt_grammar.specs.Answer.{HasAnswer}
 use Rattle.qtt_grammar.specs.Answer.HasAnswer.{is_text, is_excess, is_bad}
 use Rattle.qtt_grammar.proofs.Items.{text_exact, text_some}
 
-abbrev nowhere : Span
+abbrev pub nowhere : Span
 nowhere = record { line = 0; col = 0; len = 0 }
 
 -- a place that is another one
-abbrev elsewhere : Span → Span
+abbrev pub elsewhere : Span → Span
 elsewhere s = record { line = s.line + 1; col = s.col; len = s.len }
 
-apart_from : (s : Span) → s ≡ elsewhere s → ⊥
+pub apart_from : (s : Span) → s ≡ elsewhere s → ⊥
 apart_from s e = let h = ap (λ (t : Span). t.line) e in omega arith
 
 abbrev TextRead : Type 0
@@ -92,20 +92,23 @@ has_answer pass ls = answer_by pass ls (text_at pass ls) refl
 
 -- ---- each is unique
 
-settled_by : (pass : Pass) (us vs rest more : List Lexeme) (e f : Excess) → BeginsSome (IsText pass) us → BeginsSome (IsText pass) vs → ((w : List Lexeme) (a : Module) (o : Option Excess) → IsText pass (us ++ w) a o → o ≡ Some e) → ((w : List Lexeme) (a : Module) (o : Option Excess) → IsText pass (vs ++ w) a o → o ≡ Some f) → Fronts us vs rest → e ≡ f
-settled_by pass us vs rest more e f (w, a, o, m) begun each later (shorter n same) =
+settled_by : {A : Type 0} (P : Says A) (us vs rest more : List Lexeme) (e f : Excess) → BeginsSome P us → BeginsSome P vs → ((w : List Lexeme) (a : A) (o : Option Excess) → P (us ++ w) a o → o ≡ Some e) → ((w : List Lexeme) (a : A) (o : Option Excess) → P (vs ++ w) a o → o ≡ Some f) → Fronts us vs rest → e ≡ f
+settled_by P us vs rest more e f (w, a, o, m) begun each later (shorter n same) =
     let one = each w a o m in
-    let two = later (n ++ w) a o (subst (λ (z : List Lexeme). IsText pass z a o) (ap (λ (z : List Lexeme). z ++ w) same ∙ append_assoc vs n w) m) in
+    let two = later (n ++ w) a o (subst (λ (z : List Lexeme). P z a o) (ap (λ (z : List Lexeme). z ++ w) same ∙ append_assoc vs n w) m) in
     let h = sym one ∙ two in
     cc
-settled_by pass us vs rest more e f begun (w, a, o, m) each later (longer x n r same parts) =
+settled_by P us vs rest more e f begun (w, a, o, m) each later (longer x n r same parts) =
     let two = later w a o m in
-    let one = each (x ∷ n ++ w) a o (subst (λ (z : List Lexeme). IsText pass z a o) (ap (λ (z : List Lexeme). z ++ w) same ∙ append_assoc us (x ∷ n) w) m) in
+    let one = each (x ∷ n ++ w) a o (subst (λ (z : List Lexeme). P z a o) (ap (λ (z : List Lexeme). z ++ w) same ∙ append_assoc us (x ∷ n) w) m) in
     let h = sym one ∙ two in
     cc
 
+pub settled_alike : {A : Type 0} (P : Says A) (ls : List Lexeme) (e f : Excess) → Settles P ls e → Settles P ls f → e ≡ f
+settled_alike P ls e f s t = settled_by P s.front t.front s.rest t.rest e f s.begun t.begun s.each t.each (fronts s.front t.front s.rest t.rest (sym s.parts ∙ t.parts))
+
 pub settled_once : (pass : Pass) (ls : List Lexeme) (e f : Excess) → Settles (IsText pass) ls e → Settles (IsText pass) ls f → e ≡ f
-settled_once pass ls e f s t = settled_by pass s.front t.front s.rest t.rest e f s.begun t.begun s.each t.each (fronts s.front t.front s.rest t.rest (sym s.parts ∙ t.parts))
+settled_once pass = settled_alike (IsText pass)
 
 same_rest : (us rest more : List Lexeme) → us ++ rest ≡ us ++ more → rest ≡ more
 same_rest [] rest more e = e

@@ -10,3 +10,6 @@ pub mod Examples
 pub mod Sketch
 pub mod Unplaced
 pub mod Spelled
+pub mod Chain
+pub mod ChainReaders
+pub mod Outcome

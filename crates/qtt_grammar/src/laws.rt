@@ -17,6 +17,7 @@ ghost use Rattle.qtt_grammar.specs.declared.lexeme.Lexeme.{Lexeme};
 ghost use Rattle.qtt_grammar.specs.Lexeme.{lexemes};
 ghost use Rattle.qtt_grammar.specs.Grammar.{IsText};
 ghost use Rattle.qtt_grammar.specs.Answer.{HasAnswer};
+ghost use Rattle.qtt_grammar.specs.Outcome.{Outcome, HasOutcome};
 ghost use Rattle.qtt_grammar.specs.Sketch.{unplaced, sketched};
 ghost use Rattle.qtt_grammar.specs.Spelled.{HaveForms};
 ghost use Rattle.qtt_grammar.specs.Unplaced.{bare_module};
@@ -56,4 +57,10 @@ pub fn names_have_forms()
 /// The printed text of a text's tree is lexed, laid out and read as the same tree but for places.
 pub fn printed_texts_are_read_again()
     ensures { (pass : Pass) (bytes : List ℕ) (ts : List Token) (ms : List Laid) (t : Module) → lexed bytes ≡ Ok ts → tokens_in ms ≡ kept ts → IsText pass (lexemes ms) t None → (us : List Token) × (ns : List Laid) × (u : Module) × (lexed (printed t) ≡ Ok us) × (laid us ≡ Ok ns) × IsText pass (lexemes ns) u None × (bare_module u ≡ bare_module t) }
+{}
+
+/// Tokens are those of a module text within every limit, or a limit is passed, also that on indices and
+/// fields, or they have a first bad token before which none is passed; and there is one such answer.
+pub fn texts_have_one_outcome()
+    ensures { (ls : List Lexeme) → (a : Outcome) × HasOutcome ls a × ((b : Outcome) → HasOutcome ls b → a ≡ b) }
 {}

@@ -27,7 +27,7 @@ pub use errors::GrammarError;
 pub use laws::{
     excesses_are_settled_once, first_bad_tokens_are_unique, names_have_forms,
     printed_texts_are_read_again, printed_words_are_read_again, texts_have_one_answer,
-    trees_are_unique,
+    texts_have_one_outcome, trees_are_unique,
 };
 pub use parser::parse;
 pub use stop::Excess;
