@@ -23,6 +23,7 @@ use Rattle.qtt_core_check.specs.declared.signatures.Signature as code_signature
 use Rattle.qtt_core_check.specs.Filled.{tele, filled}
 use Rattle.qtt_core_check.specs.Signatures.{signature as signature_of, lit_type}
 use Rattle.qtt_core_check.specs.Constructors.{IsMade}
+use Rattle.qtt_core_check.specs.TwoLists.{con_parts, act_parts}
 use Rattle.qtt_core_check.specs.Seen.{Reaches, Refuses, Gives}
 use Rattle.qtt_confluence.proofs.Families.{size-append}
 use Rattle.qtt_core_check.proofs.Arguments.{length-wanted}
@@ -87,9 +88,6 @@ module _ (E : Env) (n : ℕ) (p : Part) (Γ : Ctx) (counts : Asks (Unit {0})) (r
           (ap (λ B. inferred B (usage_sum us os)) (ap₂ sub (sym (both-filled none vs ws ts ss d v w)) (sym a)))
 
 -- ---- constructors
-abbrev pub con_parts : GlobalId → ℕ → List code.Term → List code.Term → Term
-con_parts f c ts ss = node (Form.con f c (length (terms ts))) (side_by_side (terms ts) +++ side_by_side (terms ss))
-
 side-sizes : (ts ss : List code.Term) → size (side_by_side (terms ts) +++ side_by_side (terms ss)) ≡ length ts + length ss
 side-sizes ts ss =
     size-append (side_by_side (terms ts)) (side_by_side (terms ss)) ∙ ap₂ (λ a b. a + b) (size-side (terms ts) ∙ length-map ts term) (size-side (terms ss) ∙ length-map ss term)
@@ -120,9 +118,6 @@ con-lists E p Γ f c ts ss k m a b M made bs cs i j =
     ∙ ap (con_applied E p Γ ts ss (tele bs) (tele cs)) (sym made.type))
 
 -- ---- actions
-abbrev pub act_parts : Action → List code.Term → List code.Term → Term
-act_parts a ts ss = node (Form.named (Named.act a)) (side_by_side (terms ts) +++ side_by_side (terms ss))
-
 abbrev pub act_need : Action → ℕ → Asks (Unit {0})
 act_need a k = need (eqb k (length (act_signature a).arguments)) (at rule.Act 1)
 

@@ -4,6 +4,7 @@ pub mod Seen
 pub mod Signatures
 pub mod Constructors
 pub mod Cases
+pub mod TwoLists
 pub mod WithUses
 pub mod Trapless
 pub mod SmallSorts

@@ -1,14 +1,16 @@
 //! The core judgement of terms.
 
 ghost use Rattle.std.specs.Prelude.{◌≡◌, ◌<◌, ◌++◌, None, Some, IfOk, OnOk, map, length, slice_get};
-ghost use Rattle.qtt_term.specs.Signature.{ConSig};
-ghost use Rattle.qtt_term.specs.View.{term, terms, branches as branches_of, case as case_term, delete as delete_term, side_by_side};
+ghost use Rattle.qtt_term.specs.Term.{Io, Pi, Lam, App, Fam, Call, Trap};
+ghost use Rattle.qtt_term.specs.Signature.{ConSig, IoTy};
+ghost use Rattle.qtt_term.specs.View.{action, term, terms, branches as branches_of, case as case_term, delete as delete_term, side_by_side};
 ghost use Rattle.qtt_term.specs.Globals.{env};
 ghost use Rattle.qtt_term.specs.Contexts.{part};
 ghost use Rattle.qtt_term.specs.Judgement.{Part};
 ghost use Rattle.qtt_term.specs.Infer.{at, wanted, has, type_of, infer, arguments, joined_use};
 ghost use Rattle.qtt_core_check.specs.Filled.{tele, filled};
 ghost use Rattle.qtt_core_check.specs.Seen.{ctx, Gives, judged};
+ghost use Rattle.qtt_core_check.specs.TwoLists.{con_parts, act_parts};
 ghost use Rattle.qtt_core_check.specs.Cases.{case_of, motive_of, params_of, branch_asks, branches_ask};
 
 use crate::filling::fill;
@@ -19,7 +21,9 @@ use crate::premises::{Checker, same_mult, under, usable};
 use crate::refusal::CoreRefusal;
 use crate::scope::Scope;
 use crate::telescopes::{filled_binders, motive_binders, parameter_binders};
-use qtt_term::{Branch, Case, Converter, Delete, Rule, Sigma, Term};
+use qtt_base::GlobalId;
+use qtt_prims::{ActKind, Primitive};
+use qtt_term::{Branch, Case, ConId, Converter, Delete, Rule, Sigma, Term};
 use qtt_usage::mult::Mult;
 use qtt_usage::usage::Usage;
 
@@ -33,63 +37,14 @@ impl<'a, C: Converter> Checker<'a, C> {
         match t {
             Term::Var(index) => self.var_row(scope, sigma, *index),
             Term::Sort(level) => self.sort_row(scope, sigma, *level),
-            Term::Pi(mult, domain, codomain) => {
-                let first = self.type_of(scope, domain, Rule::Pi, 1)?;
-                let inner = Scope::Bound(&*scope, *mult, domain);
-                let second = self.type_of(&inner, codomain, Rule::Pi, 2)?;
-                self.pi_end(scope, first, second)
-            }
-            Term::Lam(mult, domain, body) => {
-                self.type_of(scope, domain, Rule::Lam, 1)?;
-                let inner = Scope::Bound(&*scope, *mult, domain);
-                let found = self.judge(&inner, sigma, body)?;
-                self.lam_end(sigma, *mult, domain, body, found)
-            }
+            Term::Pi(mult, domain, codomain) => self.pi_row(scope, *mult, domain, codomain),
+            Term::Lam(mult, domain, body) => self.lam_row(scope, sigma, *mult, domain, body),
             Term::App(mult, function, argument) => {
-                let left = self.judge(scope, sigma, function)?;
-                let pi = self.function_type(scope, &left.ty, Rule::App, 1)?;
-                if !same_mult(*mult, pi.mult) {
-                    return Err(CoreRefusal::Fails(Rule::App, 1));
-                }
-                let inside = under(sigma, *mult);
-                let used = self.has(scope, inside, argument, &pi.domain, Rule::App, 2)?;
-                self.app_end(*mult, left, pi, argument, used)
+                self.app_row(scope, sigma, *mult, function, argument)
             }
-            Term::Fam(id, args) => {
-                let signature = self.family_signature(*id, args.len())?;
-                let binders = &signature.arguments;
-                let mut values = Vec::new(self.alloc);
-                let used = self.arguments(
-                    scope,
-                    sigma,
-                    binders,
-                    (Rule::Fam, 1),
-                    args,
-                    &mut values,
-                )?;
-                self.applied(&signature.ty, &values, used)
-            }
+            Term::Fam(id, args) => self.family_row(scope, sigma, *id, args),
             Term::Con(con, params, fields) => {
-                let made = self.constructor(*con, params.len(), fields.len())?;
-                let mut values = Vec::new(self.alloc);
-                let mut used = self.arguments(
-                    scope,
-                    sigma,
-                    &made.params,
-                    (Rule::Con, 1),
-                    params,
-                    &mut values,
-                )?;
-                let more = self.arguments(
-                    scope,
-                    sigma,
-                    &made.fields,
-                    (Rule::Con, 2),
-                    fields,
-                    &mut values,
-                )?;
-                used.add(&more);
-                self.applied(&made.ty, &values, used)
+                self.constructor_row(scope, sigma, *con, params, fields)
             }
             Term::Case(case) => self.case(scope, sigma, case),
             Term::Delete(delete) => self.delete(scope, sigma, delete),
@@ -98,46 +53,180 @@ impl<'a, C: Converter> Checker<'a, C> {
             Term::IntTy => self.plain_row(scope, Term::Sort(0)),
             Term::StringTy => self.plain_row(scope, Term::Sort(0)),
             Term::HandleTy => self.plain_row(scope, Term::Sort(0)),
-            Term::IoTy(_, of) => {
-                let used = self.has(scope, Sigma::Erased, of, &Term::Sort(0), Rule::PrimTy, 1)?;
-                Ok(io_end(used))
-            }
-            Term::Prim(prim, args) => {
-                let signature = self.prim_signature(*prim, args.len())?;
-                let binders = &signature.arguments;
-                let mut values = Vec::new(self.alloc);
-                let used = self.arguments(
-                    scope,
-                    sigma,
-                    binders,
-                    (Rule::Prim, 1),
-                    args,
-                    &mut values,
-                )?;
-                self.applied(&signature.ty, &values, used)
-            }
-            Term::Act(kind, types, args) => {
-                let signature = self.act_signature(*kind, types.len(), args.len())?;
-                let (front, back) = signature.arguments.split_at(types.len());
-                let mut values = Vec::new(self.alloc);
-                let mut used = self.arguments(
-                    scope,
-                    sigma,
-                    front,
-                    (Rule::Act, 1),
-                    types,
-                    &mut values,
-                )?;
-                let more = self.arguments(scope, sigma, back, (Rule::Act, 1), args, &mut values)?;
-                used.add(&more);
-                self.applied(&signature.ty, &values, used)
-            }
-            Term::Trap(of) => {
-                self.type_of(scope, of, Rule::Trap, 1)?;
-                self.plain_row(scope, of.copy(self.alloc)?)
-            }
+            Term::IoTy(_, of) => self.io_row(scope, of),
+            Term::Prim(prim, args) => self.primitive_row(scope, sigma, *prim, args),
+            Term::Act(kind, types, args) => self.action_row(scope, sigma, *kind, types, args),
+            Term::Trap(of) => self.trap_row(scope, of),
             Term::Tape(number) => self.tape_row(scope, sigma, *number),
         }
+    }
+
+    /// The rule of function types.
+    #[cycle(judge)]
+    fn pi_row(
+        &self,
+        scope: &Scope<'_>,
+        mult: Mult,
+        domain: &Term,
+        codomain: &Term,
+    ) -> Result<Judged, CoreRefusal>
+        ensures gives { (p : Part) → Gives (env self.now.globals.now) self.now.budget (infer (env self.now.globals.now) p (ctx scope.now) (Pi mult (term domain.now) (term codomain.now))) judged result }
+        ensures len { IfOk result (λ j. length j.uses ≡ length (ctx scope.now)) }
+    {
+        let first = self.type_of(scope, domain, Rule::Pi, 1)?;
+        let inner = Scope::Bound(&*scope, mult, domain);
+        let second = self.type_of(&inner, codomain, Rule::Pi, 2)?;
+        self.pi_end(scope, first, second)
+    }
+
+    /// The rule of functions.
+    #[cycle(judge)]
+    fn lam_row(
+        &self,
+        scope: &Scope<'_>,
+        sigma: Sigma,
+        mult: Mult,
+        domain: &Term,
+        body: &Term,
+    ) -> Result<Judged, CoreRefusal>
+        ensures gives { Gives (env self.now.globals.now) self.now.budget (infer (env self.now.globals.now) (part sigma) (ctx scope.now) (Lam mult (term domain.now) (term body.now))) judged result }
+        ensures len { IfOk result (λ j. length j.uses ≡ length (ctx scope.now)) }
+    {
+        self.type_of(scope, domain, Rule::Lam, 1)?;
+        let inner = Scope::Bound(&*scope, mult, domain);
+        let found = self.judge(&inner, sigma, body)?;
+        self.lam_end(sigma, mult, domain, body, found)
+    }
+
+    /// The rule of applications.
+    #[cycle(judge)]
+    fn app_row(
+        &self,
+        scope: &Scope<'_>,
+        sigma: Sigma,
+        mult: Mult,
+        function: &Term,
+        argument: &Term,
+    ) -> Result<Judged, CoreRefusal>
+        ensures gives { Gives (env self.now.globals.now) self.now.budget (infer (env self.now.globals.now) (part sigma) (ctx scope.now) (App mult (term function.now) (term argument.now))) judged result }
+        ensures len { IfOk result (λ j. length j.uses ≡ length (ctx scope.now)) }
+    {
+        let left = self.judge(scope, sigma, function)?;
+        let pi = self.function_type(scope, &left.ty, Rule::App, 1)?;
+        if !same_mult(mult, pi.mult) {
+            return Err(CoreRefusal::Fails(Rule::App, 1));
+        }
+        let inside = under(sigma, mult);
+        let used = self.has(scope, inside, argument, &pi.domain, Rule::App, 2)?;
+        self.app_end(mult, left, pi, argument, used)
+    }
+
+    /// The rule of families.
+    #[cycle(judge)]
+    fn family_row(
+        &self,
+        scope: &Scope<'_>,
+        sigma: Sigma,
+        id: GlobalId,
+        args: &[Term],
+    ) -> Result<Judged, CoreRefusal>
+        ensures gives { Gives (env self.now.globals.now) self.now.budget (infer (env self.now.globals.now) (part sigma) (ctx scope.now) (Fam id (side_by_side (terms args.now)))) judged result }
+        ensures len { IfOk result (λ j. length j.uses ≡ length (ctx scope.now)) }
+    {
+        let signature = self.family_signature(id, args.len())?;
+        let binders = &signature.arguments;
+        let mut values = Vec::new(self.alloc);
+        let premise = (Rule::Fam, 1);
+        let used = self.arguments(scope, sigma, binders, premise, args, &mut values)?;
+        self.applied(&signature.ty, &values, used)
+    }
+
+    /// The rule of constructors.
+    #[cycle(judge)]
+    fn constructor_row(
+        &self,
+        scope: &Scope<'_>,
+        sigma: Sigma,
+        con: ConId,
+        params: &[Term],
+        fields: &[Term],
+    ) -> Result<Judged, CoreRefusal>
+        ensures gives { Gives (env self.now.globals.now) self.now.budget (infer (env self.now.globals.now) (part sigma) (ctx scope.now) (con_parts con.family con.place params.now fields.now)) judged result }
+        ensures len { IfOk result (λ j. length j.uses ≡ length (ctx scope.now)) }
+    {
+        let made = self.constructor(con, params.len(), fields.len())?;
+        let mut values = Vec::new(self.alloc);
+        let front = &made.params;
+        let premise = (Rule::Con, 1);
+        let mut used = self.arguments(scope, sigma, front, premise, params, &mut values)?;
+        let back = &made.fields;
+        let premise = (Rule::Con, 2);
+        let more = self.arguments(scope, sigma, back, premise, fields, &mut values)?;
+        used.add(&more);
+        self.applied(&made.ty, &values, used)
+    }
+
+    /// The rule of `IO`, of either kind.
+    #[cycle(judge)]
+    fn io_row(&self, scope: &Scope<'_>, of: &Term) -> Result<Judged, CoreRefusal>
+        ensures gives { (p : Part) (m : Io) → Gives (env self.now.globals.now) self.now.budget (infer (env self.now.globals.now) p (ctx scope.now) (IoTy m (term of.now))) judged result }
+        ensures len { IfOk result (λ j. length j.uses ≡ length (ctx scope.now)) }
+    {
+        let used = self.has(scope, Sigma::Erased, of, &Term::Sort(0), Rule::PrimTy, 1)?;
+        Ok(io_end(used))
+    }
+
+    /// The rule of primitives.
+    #[cycle(judge)]
+    fn primitive_row(
+        &self,
+        scope: &Scope<'_>,
+        sigma: Sigma,
+        prim: Primitive,
+        args: &[Term],
+    ) -> Result<Judged, CoreRefusal>
+        ensures gives { Gives (env self.now.globals.now) self.now.budget (infer (env self.now.globals.now) (part sigma) (ctx scope.now) (Call prim (side_by_side (terms args.now)))) judged result }
+        ensures len { IfOk result (λ j. length j.uses ≡ length (ctx scope.now)) }
+    {
+        let signature = self.prim_signature(prim, args.len())?;
+        let binders = &signature.arguments;
+        let mut values = Vec::new(self.alloc);
+        let premise = (Rule::Prim, 1);
+        let used = self.arguments(scope, sigma, binders, premise, args, &mut values)?;
+        self.applied(&signature.ty, &values, used)
+    }
+
+    /// The rule of actions.
+    #[cycle(judge)]
+    fn action_row(
+        &self,
+        scope: &Scope<'_>,
+        sigma: Sigma,
+        kind: ActKind,
+        types: &[Term],
+        args: &[Term],
+    ) -> Result<Judged, CoreRefusal>
+        ensures gives { Gives (env self.now.globals.now) self.now.budget (infer (env self.now.globals.now) (part sigma) (ctx scope.now) (act_parts (action kind) types.now args.now)) judged result }
+        ensures len { IfOk result (λ j. length j.uses ≡ length (ctx scope.now)) }
+    {
+        let signature = self.act_signature(kind, types.len(), args.len())?;
+        let (front, back) = signature.arguments.split_at(types.len());
+        let mut values = Vec::new(self.alloc);
+        let premise = (Rule::Act, 1);
+        let mut used = self.arguments(scope, sigma, front, premise, types, &mut values)?;
+        let more = self.arguments(scope, sigma, back, premise, args, &mut values)?;
+        used.add(&more);
+        self.applied(&signature.ty, &values, used)
+    }
+
+    /// The rule of missing clauses.
+    #[cycle(judge)]
+    fn trap_row(&self, scope: &Scope<'_>, of: &Term) -> Result<Judged, CoreRefusal>
+        ensures gives { (p : Part) → Gives (env self.now.globals.now) self.now.budget (infer (env self.now.globals.now) p (ctx scope.now) (Trap (term of.now))) judged result }
+        ensures len { IfOk result (λ j. length j.uses ≡ length (ctx scope.now)) }
+    {
+        self.type_of(scope, of, Rule::Trap, 1)?;
+        self.plain_row(scope, of.copy(self.alloc)?)
     }
 
     /// The uses of a term that has this type.

@@ -13,6 +13,7 @@ use Rattle.qtt_term.specs.Infer.{at, inferred, infer}
 use Rattle.qtt_core_check.specs.Filled.{tele, filled}
 use Rattle.qtt_core_check.specs.Cases.{case_of, params_of, motive_of, branches_ask, scrutinee_asks}
 use Rattle.qtt_core_check.specs.Seen.{ctx, judged, Reaches, Refuses, Gives}
+use Rattle.qtt_core_check.specs.TwoLists.{con_parts, act_parts}
 use Rattle.qtt_core_check.proofs.Binders.{if-ok}
 use Rattle.qtt_core_check.proofs.Within.{on, on_done, fails_here, fails_later, holds, unmet, here, later, passed, reached, tail}
 use Rattle.qtt_core_check.proofs.Continuing.{finished}
@@ -30,483 +31,108 @@ use Rattle.qtt_term.specs.Signature.{fam_at, fam_sig, prim_signature, IntTy, Str
 use Rattle.qtt_term.specs.Judgement.{ext, erase_binds, sub_binds, scale}
 use Rattle.qtt_preserve.proofs.Travel.{length-scale}
 use Rattle.qtt_core_check.proofs.Scopes.{length-tele, several-depth}
-use Rattle.qtt_core_check.specs.Signatures.{signature}
 use Rattle.qtt_core_check.proofs.Families.{found-family}
 use Rattle.qtt_core_check.proofs.Places.{length-params, sig-at}
-use Rattle.qtt_core_check.proofs.Applied.{given-as, one-uncounted, one-refused, one-is, two-refused-first, two-refused-second, two-are, con_parts, con-uncounted-parts, con-lists, act_parts, act_need, act-uncounted, act-lists, lit-is, int-is, string-is, handle-is, io-refused, io-is}
+use Rattle.qtt_core_check.proofs.Applied.{given-as, one-uncounted, one-refused, one-is, two-refused-first, two-refused-second, two-are, con-uncounted-parts, con-lists, act_need, act-uncounted, act-lists, lit-is, int-is, string-is, handle-is, io-refused, io-is}
 use Rattle.qtt_core_check.proofs.CaseRows.{case-unshaped, case-params-refused, case-motive-refused, case-branches-refused, case-scrutinee-refused, case-ends, branch-is-refused, branch-differs, branch-ends}
 
-pub judge-returns-in_err-first-in-Pi-clause-gives : goal.judge-returns-in_err-first-in-Pi-clause-gives
-judge-returns-in_err-first-in-Pi-clause-gives g t c =
-    let form : term c.args.t.now ≡ Pi c.in-Pi.mult (term c.deref.result.now) (term c.in-Pi.codomain.value) = search (rules, the_lemmas) in rw form (passed _ _ _ _ c.from_residual.result c.in_err-first-in-Pi.field-0.0 c.from_residual.ensures.1 (here _ _ _ _ _ c.in_err-first-in-Pi.ensures))
-
-pub judge-returns-in_err-second-in-Pi-clause-gives : goal.judge-returns-in_err-second-in-Pi-clause-gives
-judge-returns-in_err-second-in-Pi-clause-gives g t c =
-    let same : term c.deref-in-Pi.result.now ≡ term c.deref.result.now = search rules in let form : term c.args.t.now ≡ Pi c.in-Pi.mult (term c.deref.result.now) (term c.deref-in-Pi-2.result.now) = search (rules, the_lemmas) in rw form (passed _ _ _ _ c.from_residual-in_err-second-in-Pi.result c.in_err-second-in-Pi.field-0.0 c.from_residual-in_err-second-in-Pi.ensures.1 (later _ _ _ _ _ c.in_ok-first-in-Pi.ensures (here _ _ _ _ _ (rw same at c.in_err-second-in-Pi.ensures))))
-
-pub judge-returns-in_ok-second-in-Pi-clause-gives : goal.judge-returns-in_ok-second-in-Pi-clause-gives
-judge-returns-in_ok-second-in-Pi-clause-gives g t c =
-    let same : term c.deref-in-Pi.result.now ≡ term c.deref.result.now = search rules in let form : term c.args.t.now ≡ Pi c.in-Pi.mult (term c.deref.result.now) (term c.deref-in-Pi-2.result.now) = search (rules, the_lemmas) in rw form (finished _ judged c.pi_end.result (on _ c.in_ok-first-in-Pi.ensures (on _ (rw same at c.in_ok-second-in-Pi.ensures) on_done)) c.pi_end.ensures.gives)
-
-pub judge-returns-in_err-type_of-in-Lam-clause-gives : goal.judge-returns-in_err-type_of-in-Lam-clause-gives
-judge-returns-in_err-type_of-in-Lam-clause-gives g t c =
-    let form : term c.args.t.now ≡ Lam c.in-Lam.mult (term c.deref-in-Lam.result.now) (term c.in-Lam.body.value) = search (rules, the_lemmas) in rw form (passed _ _ _ _ c.from_residual-in_err-type_of-in-Lam.result c.in_err-type_of-in-Lam.field-0.0 c.from_residual-in_err-type_of-in-Lam.ensures.1 (here _ _ _ _ _ c.in_err-type_of-in-Lam.ensures))
-
-pub judge-returns-in_err-found-in-Lam-clause-gives : goal.judge-returns-in_err-found-in-Lam-clause-gives
-judge-returns-in_err-found-in-Lam-clause-gives g t c =
-    let same : term c.deref-in-Lam-2.result.now ≡ term c.deref-in-Lam.result.now = search rules in let form : term c.args.t.now ≡ Lam c.in-Lam.mult (term c.deref-in-Lam.result.now) (term c.deref-in-Lam-3.result.now) = search (rules, the_lemmas) in rw form (passed _ _ _ _ c.from_residual-in_err-found-in-Lam.result c.in_err-found-in-Lam.field-0.0 c.from_residual-in_err-found-in-Lam.ensures.1 (later _ _ _ _ _ c.in_ok-type_of-in-Lam.ensures (here _ _ _ _ _ (rw same at c.in_err-found-in-Lam.ensures.gives))))
-
-pub judge-returns-in_ok-found-in-Lam-clause-gives : goal.judge-returns-in_ok-found-in-Lam-clause-gives
-judge-returns-in_ok-found-in-Lam-clause-gives g t c =
-    let same : term c.deref-in-Lam-2.result.now ≡ term c.deref-in-Lam.result.now = search rules in let again : term c.deref-in-Lam-4.result.now ≡ term c.deref-in-Lam.result.now = search rules in let body : term c.deref-in-Lam-5.result.now ≡ term c.deref-in-Lam-3.result.now = search rules in let form : term c.args.t.now ≡ Lam c.in-Lam.mult (term c.deref-in-Lam.result.now) (term c.deref-in-Lam-3.result.now) = search (rules, the_lemmas) in rw form (tail _ _ _ _ _ c.lam_end.result c.in_ok-type_of-in-Lam.ensures (tail _ _ _ _ _ c.lam_end.result (rw same at c.in_ok-found-in-Lam.ensures.gives) (rw (again, body) at c.lam_end.ensures.gives)))
-
-pub judge-lam_end-requires : goal.judge-lam_end-requires
-judge-lam_end-requires g t c =
-    omega (arith, c.in_ok-found-in-Lam.ensures.len)
-
-pub judge-returns-in_ok-found-in-Lam-clause-len : goal.judge-returns-in_ok-found-in-Lam-clause-len
-judge-returns-in_ok-found-in-Lam-clause-len g t c =
-    if-ok (λ j. length j.uses + 1 ≡ length c.in_ok-found-in-Lam.found.uses) (λ j. length j.uses ≡ length (ctx c.args.scope.now)) c.lam_end.result (λ j h. omega (arith, h, c.in_ok-found-in-Lam.ensures.len)) c.lam_end.ensures.len
-
-pub judge-returns-in_err-left-in-App-clause-gives : goal.judge-returns-in_err-left-in-App-clause-gives
-judge-returns-in_err-left-in-App-clause-gives g t c =
-    let form : term c.args.t.now ≡ App c.in-App.mult (term c.deref-in-App.result.now) (term c.in-App.argument.value) = search (rules, the_lemmas) in rw form (passed _ _ _ _ c.from_residual-in_err-left-in-App.result c.in_err-left-in-App.field-0.0 c.from_residual-in_err-left-in-App.ensures.1 (here _ _ _ _ _ c.in_err-left-in-App.ensures.gives))
-
-pub judge-returns-in_err-pi-in-App-clause-gives : goal.judge-returns-in_err-pi-in-App-clause-gives
-judge-returns-in_err-pi-in-App-clause-gives g t c =
-    let form : term c.args.t.now ≡ App c.in-App.mult (term c.deref-in-App.result.now) (term c.in-App.argument.value) = search (rules, the_lemmas) in rw form (passed _ _ _ _ c.from_residual-in_err-pi-in-App.result c.in_err-pi-in-App.field-0.0 c.from_residual-in_err-pi-in-App.ensures.1 (later _ _ _ _ _ c.in_ok-left-in-App.ensures.gives (here _ _ _ _ _ c.in_err-pi-in-App.ensures)))
-
-pub judge-returns-then-not-same_mult-clause-gives : goal.judge-returns-then-not-same_mult-clause-gives
-judge-returns-then-not-same_mult-clause-gives g t c =
-    let form : term c.args.t.now ≡ App c.in-App.mult (term c.deref-in-App.result.now) (term c.in-App.argument.value) = search (rules, the_lemmas) in rw form (fails_later _ c.in_ok-left-in-App.ensures.gives (fails_later _ c.in_ok-pi-in-App.ensures (fails_here _ (unmet _ _ (search rules)))))
-
-pub judge-returns-in_err-used-in-App-clause-gives : goal.judge-returns-in_err-used-in-App-clause-gives
-judge-returns-in_err-used-in-App-clause-gives g t c =
-    let form : term c.args.t.now ≡ App c.in-App.mult (term c.deref-in-App.result.now) (term c.deref-in-App-2.result.now) = search (rules, the_lemmas) in rw form (passed _ _ _ _ c.from_residual-in_err-used-in-App.result c.in_err-used-in-App.field-0.0 c.from_residual-in_err-used-in-App.ensures.1 (later _ _ _ _ _ c.in_ok-left-in-App.ensures.gives (later _ _ _ _ _ c.in_ok-pi-in-App.ensures (later _ _ _ _ _ (holds _ _ (search rules)) (here _ _ _ _ _ (rw c.under-inside.ensures at c.in_err-used-in-App.ensures.gives))))))
-
-pub judge-returns-in_ok-used-in-App-clause-gives : goal.judge-returns-in_ok-used-in-App-clause-gives
-judge-returns-in_ok-used-in-App-clause-gives g t c =
-    let same : term c.deref-in-App-3.result.now ≡ term c.deref-in-App-2.result.now = search rules in let form : term c.args.t.now ≡ App c.in-App.mult (term c.deref-in-App.result.now) (term c.deref-in-App-2.result.now) = search (rules, the_lemmas) in rw form (finished _ judged c.app_end.result (on _ c.in_ok-left-in-App.ensures.gives (on _ c.in_ok-pi-in-App.ensures (on _ (holds _ _ (search rules)) (on _ (rw c.under-inside.ensures at c.in_ok-used-in-App.ensures.gives) on_done)))) (rw same at c.app_end.ensures.gives))
-
-pub judge-returns-in_err-signature-in-Fam-clause-gives : goal.judge-returns-in_err-signature-in-Fam-clause-gives
-judge-returns-in_err-signature-in-Fam-clause-gives g t c =
+-- ---- each form goes to its row
+pub judge-returns-in-Pi-clause-gives : goal.judge-returns-in-Pi-clause-gives
+judge-returns-in-Pi-clause-gives g t c =
     let E = env c.args.self.now.globals.now in
     let N = c.args.self.now.budget in
     let p = part c.args.sigma in
     let Γ = ctx c.args.scope.now in
-    let f = c.in-Fam.id in
+    let form : term c.args.t.now ≡ Pi c.in-Pi.mult (term c.deref.result.now) (term c.deref-in-Pi.result.now) = search (rules, the_lemmas) in
+    given-as E N _ _ judged c.pi_row.result (ap (infer E p Γ) form) (c.pi_row.ensures.gives p)
+
+pub judge-returns-in-Lam-clause-gives : goal.judge-returns-in-Lam-clause-gives
+judge-returns-in-Lam-clause-gives g t c =
+    let E = env c.args.self.now.globals.now in
+    let N = c.args.self.now.budget in
+    let p = part c.args.sigma in
+    let Γ = ctx c.args.scope.now in
+    let form : term c.args.t.now ≡ Lam c.in-Lam.mult (term c.deref-in-Lam.result.now) (term c.deref-in-Lam-2.result.now) = search (rules, the_lemmas) in
+    given-as E N _ _ judged c.lam_row.result (ap (infer E p Γ) form) c.lam_row.ensures.gives
+
+pub judge-returns-in-App-clause-gives : goal.judge-returns-in-App-clause-gives
+judge-returns-in-App-clause-gives g t c =
+    let E = env c.args.self.now.globals.now in
+    let N = c.args.self.now.budget in
+    let p = part c.args.sigma in
+    let Γ = ctx c.args.scope.now in
+    let form : term c.args.t.now ≡ App c.in-App.mult (term c.deref-in-App.result.now) (term c.deref-in-App-2.result.now) = search (rules, the_lemmas) in
+    given-as E N _ _ judged c.app_row.result (ap (infer E p Γ) form) c.app_row.ensures.gives
+
+pub judge-returns-in-Fam-clause-gives : goal.judge-returns-in-Fam-clause-gives
+judge-returns-in-Fam-clause-gives g t c =
+    let E = env c.args.self.now.globals.now in
+    let N = c.args.self.now.budget in
+    let p = part c.args.sigma in
+    let Γ = ctx c.args.scope.now in
     let ts = c.in-Fam.args.items in
-    let form : term c.args.t.now ≡ Fam f (side_by_side (terms ts)) = search (rules, the_lemmas) in
-    let asks = ap (infer E p Γ) form ∙ fam-asks E p Γ f (terms ts) in
-    let Θ = erase_binds ((fam_at E f).params ++ (fam_at E f).indices) in
-    let A = Sort (fam_at E f).level in
-    let k = c.len.result in
-    let l : k ≡ length ts = c.len.ensures ∙ omega (arith, c.in-Fam.args.ok.0) in
-    let e = c.in_err-signature-in-Fam.field-0.0 in
-    given-as E N _ _ judged c.from_residual-in_err-signature-in-Fam.result asks
-    (passed E N _ judged c.from_residual-in_err-signature-in-Fam.result e c.from_residual-in_err-signature-in-Fam.ensures.1
-    (one-uncounted E N p Γ (fam_need E f) (at rule.Fam 1) Θ A ts k l e c.in_err-signature-in-Fam.ensures.gives))
+    let form : term c.args.t.now ≡ Fam c.in-Fam.id (side_by_side (terms ts)) = search (rules, the_lemmas) in
+    given-as E N _ _ judged c.family_row.result (ap (infer E p Γ) form)
+    (subst (λ xs. Gives E N (infer E p Γ (Fam c.in-Fam.id (side_by_side (terms xs)))) judged c.family_row.result) c.deref-in-Fam.ensures.value c.family_row.ensures.gives)
 
-pub judge-returns-in_err-used-in-Fam-clause-gives : goal.judge-returns-in_err-used-in-Fam-clause-gives
-judge-returns-in_err-used-in-Fam-clause-gives g t c =
+pub judge-returns-in-Con-clause-gives : goal.judge-returns-in-Con-clause-gives
+judge-returns-in-Con-clause-gives g t c =
     let E = env c.args.self.now.globals.now in
     let N = c.args.self.now.budget in
     let p = part c.args.sigma in
     let Γ = ctx c.args.scope.now in
-    let f = c.in-Fam.id in
-    let ts = c.in-Fam.args.items in
-    let form : term c.args.t.now ≡ Fam f (side_by_side (terms ts)) = search (rules, the_lemmas) in
-    let asks = ap (infer E p Γ) form ∙ fam-asks E p Γ f (terms ts) in
-    let Θ = erase_binds ((fam_at E f).params ++ (fam_at E f).indices) in
-    let A = Sort (fam_at E f).level in
-    let k = c.len.result in
-    let l : k ≡ length ts = c.len.ensures ∙ omega (arith, c.in-Fam.args.ok.0) in
-    let bs = c.in_ok-signature-in-Fam.signature.arguments.items in
-    let none = c.new-values.result.items in
-    let d : none ≡ [] = c.new-values.ensures.items in
-    let b = c.deref-in-Fam.ensures.value in
-    let a = c.deref-in-Fam-2.ensures.value in
-    let e = c.in_err-used-in-Fam.field-0.0 in
-    given-as E N _ _ judged c.from_residual-in_err-used-in-Fam.result asks
-    (passed E N _ judged c.from_residual-in_err-used-in-Fam.result e c.from_residual-in_err-used-in-Fam.ensures.1
-    (one-refused E N p Γ (fam_need E f) (at rule.Fam 1) Θ A ts k l bs none c.in_ok-signature-in-Fam.ensures.arguments d c.in_ok-signature-in-Fam.ensures.gives e
-    (rw (b, a) at c.in_err-used-in-Fam.ensures.gives)))
-
-pub judge-returns-in_ok-used-in-Fam-clause-gives : goal.judge-returns-in_ok-used-in-Fam-clause-gives
-judge-returns-in_ok-used-in-Fam-clause-gives g t c =
-    let E = env c.args.self.now.globals.now in
-    let N = c.args.self.now.budget in
-    let p = part c.args.sigma in
-    let Γ = ctx c.args.scope.now in
-    let f = c.in-Fam.id in
-    let ts = c.in-Fam.args.items in
-    let form : term c.args.t.now ≡ Fam f (side_by_side (terms ts)) = search (rules, the_lemmas) in
-    let asks = ap (infer E p Γ) form ∙ fam-asks E p Γ f (terms ts) in
-    let Θ = erase_binds ((fam_at E f).params ++ (fam_at E f).indices) in
-    let A = Sort (fam_at E f).level in
-    let k = c.len.result in
-    let l : k ≡ length ts = c.len.ensures ∙ omega (arith, c.in-Fam.args.ok.0) in
-    let bs = c.in_ok-signature-in-Fam.signature.arguments.items in
-    let none = c.new-values.result.items in
-    let d : none ≡ [] = c.new-values.ensures.items in
-    let b = c.deref-in-Fam.ensures.value in
-    let a = c.deref-in-Fam-2.ensures.value in
-    let vs = c.arguments.new.values.items in
-    let w = c.deref-in-Fam-3.ensures.value in
-    given-as E N _ _ judged c.applied.result asks
-    (finished _ judged c.applied.result
-    (one-is E N p Γ (fam_need E f) (at rule.Fam 1) Θ A ts k l bs none c.in_ok-signature-in-Fam.ensures.arguments d c.in_ok-signature-in-Fam.ensures.gives
-    vs c.in_ok-signature-in-Fam.signature.ty c.in_ok-used-in-Fam.used (rw a at c.in_ok-used-in-Fam.ensures.values) c.in_ok-signature-in-Fam.ensures.ty
-    (rw (b, a) at c.in_ok-used-in-Fam.ensures.gives))
-    (rw w at c.applied.ensures.gives))
-
-pub judge-returns-in_err-made-in-Con-clause-gives : goal.judge-returns-in_err-made-in-Con-clause-gives
-judge-returns-in_err-made-in-Con-clause-gives g t c =
-    let E = env c.args.self.now.globals.now in
-    let N = c.args.self.now.budget in
-    let p = part c.args.sigma in
-    let Γ = ctx c.args.scope.now in
-    let f = c.in-Con.con.family in
-    let i = c.in-Con.con.place in
     let ts = c.in-Con.params.items in
     let ss = c.in-Con.fields.items in
-    let form : term c.args.t.now ≡ con_parts f i ts ss = search (rules, the_lemmas) in
-    let k = c.len-in-Con.result in
-    let m = c.len-in-Con-2.result in
-    let l : k ≡ length ts = c.len-in-Con.ensures ∙ omega (arith, c.in-Con.params.ok.0) in
-    let o : m ≡ length ss = c.len-in-Con-2.ensures ∙ omega (arith, c.in-Con.fields.ok.0) in
-    let e = c.in_err-made-in-Con.field-0.0 in
-    given-as E N _ _ judged c.from_residual-in_err-made-in-Con.result (ap (infer E p Γ) form)
-    (passed E N _ judged c.from_residual-in_err-made-in-Con.result e c.from_residual-in_err-made-in-Con.ensures.1
-    (con-uncounted-parts E N p Γ f i ts ss k m l o e c.in_err-made-in-Con.ensures.gives))
+    let form : term c.args.t.now ≡ con_parts c.in-Con.con.family c.in-Con.con.place ts ss = search (rules, the_lemmas) in
+    let a = c.deref-in-Con.ensures.value in
+    let b = c.deref-in-Con-2.ensures.value in
+    given-as E N _ _ judged c.constructor_row.result (ap (infer E p Γ) form)
+    (subst (λ xs. Gives E N (infer E p Γ (con_parts c.in-Con.con.family c.in-Con.con.place ts xs)) judged c.constructor_row.result) b
+    (subst (λ xs. Gives E N (infer E p Γ (con_parts c.in-Con.con.family c.in-Con.con.place xs c.deref-in-Con-2.result.now)) judged c.constructor_row.result) a c.constructor_row.ensures.gives))
 
-pub judge-returns-in_err-used-in-Con-clause-gives : goal.judge-returns-in_err-used-in-Con-clause-gives
-judge-returns-in_err-used-in-Con-clause-gives g t c =
+pub judge-returns-in-IoTy-clause-gives : goal.judge-returns-in-IoTy-clause-gives
+judge-returns-in-IoTy-clause-gives g t c =
     let E = env c.args.self.now.globals.now in
     let N = c.args.self.now.budget in
     let p = part c.args.sigma in
     let Γ = ctx c.args.scope.now in
-    let f = c.in-Con.con.family in
-    let i = c.in-Con.con.place in
-    let ts = c.in-Con.params.items in
-    let ss = c.in-Con.fields.items in
-    let form : term c.args.t.now ≡ con_parts f i ts ss = search (rules, the_lemmas) in
-    let k = c.len-in-Con.result in
-    let m = c.len-in-Con-2.result in
-    let l : k ≡ length ts = c.len-in-Con.ensures ∙ omega (arith, c.in-Con.params.ok.0) in
-    let o : m ≡ length ss = c.len-in-Con-2.ensures ∙ omega (arith, c.in-Con.fields.ok.0) in
-    let M = c.in_ok-made-in-Con.made in
-    let bs = M.params.items in
-    let cs = M.fields.items in
-    let none = c.new-values-in-Con.result.items in
-    let d : none ≡ [] = c.new-values-in-Con.ensures.items in
-    let asks = ap (infer E p Γ) form ∙ con-lists E p Γ f i ts ss k m l o M c.in_ok-made-in-Con.ensures.made bs cs refl refl in
-    let z : length bs ≡ length ts = c.in_ok-made-in-Con.ensures.params ∙ l in
-    let b = c.deref-in-Con.ensures.value in
-    let a = c.deref-in-Con-2.ensures.value in
-    let e = c.in_err-used-in-Con.field-0.0 in
-    given-as E N _ _ judged c.from_residual-in_err-used-in-Con.result asks
-    (passed E N _ judged c.from_residual-in_err-used-in-Con.result e c.from_residual-in_err-used-in-Con.ensures.1
-    (two-refused-first E N p Γ (con_need E f i k (k + m)) (at rule.Con 1) (at rule.Con 2) bs cs (term M.ty) ts ss none d z c.in_ok-made-in-Con.ensures.gives e (rw (b, a) at c.in_err-used-in-Con.ensures.gives)))
+    let form : term c.args.t.now ≡ IoTy (io c.in-IoTy.field-0) (term c.deref-in-IoTy.result.now) = search (rules, the_lemmas) in
+    given-as E N _ _ judged c.io_row.result (ap (infer E p Γ) form) (c.io_row.ensures.gives p (io c.in-IoTy.field-0))
 
-pub judge-returns-in_err-more-in-Con-clause-gives : goal.judge-returns-in_err-more-in-Con-clause-gives
-judge-returns-in_err-more-in-Con-clause-gives g t c =
+pub judge-returns-in-Prim-clause-gives : goal.judge-returns-in-Prim-clause-gives
+judge-returns-in-Prim-clause-gives g t c =
     let E = env c.args.self.now.globals.now in
     let N = c.args.self.now.budget in
     let p = part c.args.sigma in
     let Γ = ctx c.args.scope.now in
-    let f = c.in-Con.con.family in
-    let i = c.in-Con.con.place in
-    let ts = c.in-Con.params.items in
-    let ss = c.in-Con.fields.items in
-    let form : term c.args.t.now ≡ con_parts f i ts ss = search (rules, the_lemmas) in
-    let k = c.len-in-Con.result in
-    let m = c.len-in-Con-2.result in
-    let l : k ≡ length ts = c.len-in-Con.ensures ∙ omega (arith, c.in-Con.params.ok.0) in
-    let o : m ≡ length ss = c.len-in-Con-2.ensures ∙ omega (arith, c.in-Con.fields.ok.0) in
-    let M = c.in_ok-made-in-Con.made in
-    let bs = M.params.items in
-    let cs = M.fields.items in
-    let none = c.new-values-in-Con.result.items in
-    let d : none ≡ [] = c.new-values-in-Con.ensures.items in
-    let asks = ap (infer E p Γ) form ∙ con-lists E p Γ f i ts ss k m l o M c.in_ok-made-in-Con.ensures.made bs cs refl refl in
-    let z : length bs ≡ length ts = c.in_ok-made-in-Con.ensures.params ∙ l in
-    let b = c.deref-in-Con.ensures.value in
-    let a = c.deref-in-Con-2.ensures.value in
-    let vs = c.arguments-in-Con.new.values.items in
-    let v = rw a at c.in_ok-used-in-Con.ensures.values in
-    let b2 = c.deref-in-Con-3.ensures.value in
-    let a2 = c.deref-in-Con-4.ensures.value in
-    let h = rw (b, a) at c.in_ok-used-in-Con.ensures.gives in
-    let e = c.in_err-more-in-Con.field-0.0 in
-    given-as E N _ _ judged c.from_residual-in_err-more-in-Con.result asks
-    (passed E N _ judged c.from_residual-in_err-more-in-Con.result e c.from_residual-in_err-more-in-Con.ensures.1
-    (two-refused-second E N p Γ (con_need E f i k (k + m)) (at rule.Con 1) (at rule.Con 2) bs cs (term M.ty) ts ss none d z c.in_ok-made-in-Con.ensures.gives vs c.in_ok-used-in-Con.used v h e (rw (b2, a2) at c.in_err-more-in-Con.ensures.gives)))
-
-pub judge-returns-in_ok-more-in-Con-clause-gives : goal.judge-returns-in_ok-more-in-Con-clause-gives
-judge-returns-in_ok-more-in-Con-clause-gives g t c =
-    let E = env c.args.self.now.globals.now in
-    let N = c.args.self.now.budget in
-    let p = part c.args.sigma in
-    let Γ = ctx c.args.scope.now in
-    let f = c.in-Con.con.family in
-    let i = c.in-Con.con.place in
-    let ts = c.in-Con.params.items in
-    let ss = c.in-Con.fields.items in
-    let form : term c.args.t.now ≡ con_parts f i ts ss = search (rules, the_lemmas) in
-    let k = c.len-in-Con.result in
-    let m = c.len-in-Con-2.result in
-    let l : k ≡ length ts = c.len-in-Con.ensures ∙ omega (arith, c.in-Con.params.ok.0) in
-    let o : m ≡ length ss = c.len-in-Con-2.ensures ∙ omega (arith, c.in-Con.fields.ok.0) in
-    let M = c.in_ok-made-in-Con.made in
-    let bs = M.params.items in
-    let cs = M.fields.items in
-    let none = c.new-values-in-Con.result.items in
-    let d : none ≡ [] = c.new-values-in-Con.ensures.items in
-    let asks = ap (infer E p Γ) form ∙ con-lists E p Γ f i ts ss k m l o M c.in_ok-made-in-Con.ensures.made bs cs refl refl in
-    let z : length bs ≡ length ts = c.in_ok-made-in-Con.ensures.params ∙ l in
-    let b = c.deref-in-Con.ensures.value in
-    let a = c.deref-in-Con-2.ensures.value in
-    let vs = c.arguments-in-Con.new.values.items in
-    let v = rw a at c.in_ok-used-in-Con.ensures.values in
-    let b2 = c.deref-in-Con-3.ensures.value in
-    let a2 = c.deref-in-Con-4.ensures.value in
-    let h = rw (b, a) at c.in_ok-used-in-Con.ensures.gives in
-    let ws = c.arguments-in-Con-2.new.values.items in
-    let w = c.deref-in-Con-5.ensures.value in
-    let us : c.add.new.self ≡ usage_sum c.in_ok-used-in-Con.used c.in_ok-more-in-Con.more = c.add.ensures.uses in
-    given-as E N _ _ judged c.applied-in-Con.result asks
-    (finished _ judged c.applied-in-Con.result
-    (two-are E N p Γ (con_need E f i k (k + m)) (at rule.Con 1) (at rule.Con 2) bs cs (term M.ty) ts ss none d z c.in_ok-made-in-Con.ensures.gives vs c.in_ok-used-in-Con.used v h
-    ws c.in_ok-more-in-Con.more M.ty c.in_ok-more-in-Con.ensures.len (rw a2 at c.in_ok-more-in-Con.ensures.values) refl (rw (b2, a2) at c.in_ok-more-in-Con.ensures.gives))
-    (rw (w, us) at c.applied-in-Con.ensures.gives))
-
-pub judge-returns-in_err-used-in-IoTy-clause-gives : goal.judge-returns-in_err-used-in-IoTy-clause-gives
-judge-returns-in_err-used-in-IoTy-clause-gives g t c =
-    let E = env c.args.self.now.globals.now in
-    let N = c.args.self.now.budget in
-    let p = part c.args.sigma in
-    let Γ = ctx c.args.scope.now in
-    let A = term c.deref-in-IoTy.result.now in
-    let form : term c.args.t.now ≡ IoTy (io c.in-IoTy.field-0) A = search (rules, the_lemmas) in
-    let e = c.in_err-used-in-IoTy.field-0.0 in
-    given-as E N _ _ judged c.from_residual-in_err-used-in-IoTy.result (ap (infer E p Γ) form)
-    (passed E N _ judged c.from_residual-in_err-used-in-IoTy.result e c.from_residual-in_err-used-in-IoTy.ensures.1
-    (io-refused E N p Γ (io c.in-IoTy.field-0) A e (rw (sort-seen 0) at c.in_err-used-in-IoTy.ensures.gives)))
-
-pub judge-returns-in_ok-used-in-IoTy-clause-gives : goal.judge-returns-in_ok-used-in-IoTy-clause-gives
-judge-returns-in_ok-used-in-IoTy-clause-gives g t c =
-    let E = env c.args.self.now.globals.now in
-    let N = c.args.self.now.budget in
-    let p = part c.args.sigma in
-    let Γ = ctx c.args.scope.now in
-    let A = term c.deref-in-IoTy.result.now in
-    let form : term c.args.t.now ≡ IoTy (io c.in-IoTy.field-0) A = search (rules, the_lemmas) in
-    let us = c.in_ok-used-in-IoTy.used in
-    reached
-    (subst (λ T. Reaches E N (infer E p Γ T) (inferred (Sort 0) (usage_scale 𝟘 us))) (sym form)
-    (io-is p Γ (io c.in-IoTy.field-0) A us c.in_ok-used-in-IoTy.ensures.len (rw (sort-seen 0) at c.in_ok-used-in-IoTy.ensures.gives)))
-    (sym c.io_end.ensures.gives)
-
-pub judge-returns-in_err-signature-in-Prim-clause-gives : goal.judge-returns-in_err-signature-in-Prim-clause-gives
-judge-returns-in_err-signature-in-Prim-clause-gives g t c =
-    let E = env c.args.self.now.globals.now in
-    let N = c.args.self.now.budget in
-    let p = part c.args.sigma in
-    let Γ = ctx c.args.scope.now in
-    let q = c.in-Prim.prim in
     let ts = c.in-Prim.args.items in
-    let form : term c.args.t.now ≡ Call q (side_by_side (terms ts)) = search (rules, the_lemmas) in
-    let asks = ap (infer E p Γ) form ∙ named-asks E p Γ (Named.prim q) (terms ts) refl (prim-many q) in
-    let Θ = (prim_signature q).arguments in
-    let A = (prim_signature q).type in
-    let k = c.len-in-Prim.result in
-    let l : k ≡ length ts = c.len-in-Prim.ensures ∙ omega (arith, c.in-Prim.args.ok.0) in
-    let e = c.in_err-signature-in-Prim.field-0.0 in
-    given-as E N _ _ judged c.from_residual-in_err-signature-in-Prim.result asks
-    (passed E N _ judged c.from_residual-in_err-signature-in-Prim.result e c.from_residual-in_err-signature-in-Prim.ensures.1
-    (one-uncounted E N p Γ (named_need E (Named.prim q)) (at rule.Prim 1) Θ A ts k l e c.in_err-signature-in-Prim.ensures.gives))
+    let form : term c.args.t.now ≡ Call c.in-Prim.prim (side_by_side (terms ts)) = search (rules, the_lemmas) in
+    given-as E N _ _ judged c.primitive_row.result (ap (infer E p Γ) form)
+    (subst (λ xs. Gives E N (infer E p Γ (Call c.in-Prim.prim (side_by_side (terms xs)))) judged c.primitive_row.result) c.deref-in-Prim.ensures.value c.primitive_row.ensures.gives)
 
-pub judge-returns-in_err-used-in-Prim-clause-gives : goal.judge-returns-in_err-used-in-Prim-clause-gives
-judge-returns-in_err-used-in-Prim-clause-gives g t c =
+pub judge-returns-in-Act-clause-gives : goal.judge-returns-in-Act-clause-gives
+judge-returns-in-Act-clause-gives g t c =
     let E = env c.args.self.now.globals.now in
     let N = c.args.self.now.budget in
     let p = part c.args.sigma in
     let Γ = ctx c.args.scope.now in
-    let q = c.in-Prim.prim in
-    let ts = c.in-Prim.args.items in
-    let form : term c.args.t.now ≡ Call q (side_by_side (terms ts)) = search (rules, the_lemmas) in
-    let asks = ap (infer E p Γ) form ∙ named-asks E p Γ (Named.prim q) (terms ts) refl (prim-many q) in
-    let Θ = (prim_signature q).arguments in
-    let A = (prim_signature q).type in
-    let k = c.len-in-Prim.result in
-    let l : k ≡ length ts = c.len-in-Prim.ensures ∙ omega (arith, c.in-Prim.args.ok.0) in
-    let bs = c.in_ok-signature-in-Prim.signature.arguments.items in
-    let s : signature c.in_ok-signature-in-Prim.signature ≡ prim_signature q = c.in_ok-signature-in-Prim.ensures.signature in
-    let none = c.new-values-in-Prim.result.items in
-    let d : none ≡ [] = c.new-values-in-Prim.ensures.items in
-    let b = c.deref-in-Prim.ensures.value in
-    let a = c.deref-in-Prim-2.ensures.value in
-    let e = c.in_err-used-in-Prim.field-0.0 in
-    given-as E N _ _ judged c.from_residual-in_err-used-in-Prim.result asks
-    (passed E N _ judged c.from_residual-in_err-used-in-Prim.result e c.from_residual-in_err-used-in-Prim.ensures.1
-    (one-refused E N p Γ (named_need E (Named.prim q)) (at rule.Prim 1) Θ A ts k l bs none (ap (λ s. s.arguments) s) d c.in_ok-signature-in-Prim.ensures.gives e
-    (rw (b, a) at c.in_err-used-in-Prim.ensures.gives)))
-
-pub judge-returns-in_ok-used-in-Prim-clause-gives : goal.judge-returns-in_ok-used-in-Prim-clause-gives
-judge-returns-in_ok-used-in-Prim-clause-gives g t c =
-    let E = env c.args.self.now.globals.now in
-    let N = c.args.self.now.budget in
-    let p = part c.args.sigma in
-    let Γ = ctx c.args.scope.now in
-    let q = c.in-Prim.prim in
-    let ts = c.in-Prim.args.items in
-    let form : term c.args.t.now ≡ Call q (side_by_side (terms ts)) = search (rules, the_lemmas) in
-    let asks = ap (infer E p Γ) form ∙ named-asks E p Γ (Named.prim q) (terms ts) refl (prim-many q) in
-    let Θ = (prim_signature q).arguments in
-    let A = (prim_signature q).type in
-    let k = c.len-in-Prim.result in
-    let l : k ≡ length ts = c.len-in-Prim.ensures ∙ omega (arith, c.in-Prim.args.ok.0) in
-    let bs = c.in_ok-signature-in-Prim.signature.arguments.items in
-    let s : signature c.in_ok-signature-in-Prim.signature ≡ prim_signature q = c.in_ok-signature-in-Prim.ensures.signature in
-    let none = c.new-values-in-Prim.result.items in
-    let d : none ≡ [] = c.new-values-in-Prim.ensures.items in
-    let b = c.deref-in-Prim.ensures.value in
-    let a = c.deref-in-Prim-2.ensures.value in
-    let vs = c.arguments-in-Prim.new.values.items in
-    let w = c.deref-in-Prim-3.ensures.value in
-    given-as E N _ _ judged c.applied-in-Prim.result asks
-    (finished _ judged c.applied-in-Prim.result
-    (one-is E N p Γ (named_need E (Named.prim q)) (at rule.Prim 1) Θ A ts k l bs none (ap (λ s. s.arguments) s) d c.in_ok-signature-in-Prim.ensures.gives
-    vs c.in_ok-signature-in-Prim.signature.ty c.in_ok-used-in-Prim.used (rw a at c.in_ok-used-in-Prim.ensures.values) (ap (λ s. s.type) s)
-    (rw (b, a) at c.in_ok-used-in-Prim.ensures.gives))
-    (rw w at c.applied-in-Prim.ensures.gives))
-
-pub judge-returns-in_err-signature-in-Act-clause-gives : goal.judge-returns-in_err-signature-in-Act-clause-gives
-judge-returns-in_err-signature-in-Act-clause-gives g t c =
-    let E = env c.args.self.now.globals.now in
-    let N = c.args.self.now.budget in
-    let p = part c.args.sigma in
-    let Γ = ctx c.args.scope.now in
-    let a = action c.in-Act.kind in
     let ts = c.in-Act.types.items in
     let ss = c.in-Act.args.items in
-    let form : term c.args.t.now ≡ act_parts a ts ss = search (rules, the_lemmas) in
-    let k = c.len-in-Act.result in
-    let m = c.len-in-Act-2.result in
-    let l : k ≡ length ts = c.len-in-Act.ensures ∙ omega (arith, c.in-Act.types.ok.0) in
-    let o : m ≡ length ss = c.len-in-Act-2.ensures ∙ omega (arith, c.in-Act.args.ok.0) in
-    let e = c.in_err-signature-in-Act.field-0.0 in
-    given-as E N _ _ judged c.from_residual-in_err-signature-in-Act.result (ap (infer E p Γ) form)
-    (passed E N _ judged c.from_residual-in_err-signature-in-Act.result e c.from_residual-in_err-signature-in-Act.ensures.1
-    (act-uncounted E N p Γ a ts ss k m l o e c.in_err-signature-in-Act.ensures.gives))
-
-pub judge-returns-in_err-used-in-Act-clause-gives : goal.judge-returns-in_err-used-in-Act-clause-gives
-judge-returns-in_err-used-in-Act-clause-gives g t c =
-    let E = env c.args.self.now.globals.now in
-    let N = c.args.self.now.budget in
-    let p = part c.args.sigma in
-    let Γ = ctx c.args.scope.now in
-    let a = action c.in-Act.kind in
-    let ts = c.in-Act.types.items in
-    let ss = c.in-Act.args.items in
-    let form : term c.args.t.now ≡ act_parts a ts ss = search (rules, the_lemmas) in
-    let k = c.len-in-Act.result in
-    let m = c.len-in-Act-2.result in
-    let l : k ≡ length ts = c.len-in-Act.ensures ∙ omega (arith, c.in-Act.types.ok.0) in
-    let o : m ≡ length ss = c.len-in-Act-2.ensures ∙ omega (arith, c.in-Act.args.ok.0) in
-    let S = c.in_ok-signature-in-Act.signature in
-    let bs = c.split_at.result.0.now in
-    let cs = c.split_at.result.1.now in
-    let at_len = c.len-in-Act-3.result in
-    let split : S.arguments.items ≡ bs ++ cs = sym (take-append-drop at_len S.arguments.items) ∙ sym (ap₂ (λ x y. x ++ y) (rw c.deref-in-Act.ensures.value at c.split_at.ensures.front) (rw c.deref-in-Act.ensures.value at c.split_at.ensures.back)) in
-    let none = c.new-values-in-Act.result.items in
-    let d : none ≡ [] = c.new-values-in-Act.ensures.items in
-    let asks = ap (infer E p Γ) form ∙ act-lists E p Γ a ts ss k m l o S c.in_ok-signature-in-Act.ensures.signature bs cs split in
-    let z : length bs ≡ length ts = c.split_at.ensures.front_len ∙ c.len-in-Act-3.ensures ∙ omega (arith, c.in-Act.types.ok.0) in
+    let form : term c.args.t.now ≡ act_parts (action c.in-Act.kind) ts ss = search (rules, the_lemmas) in
+    let a = c.deref-in-Act.ensures.value in
     let b = c.deref-in-Act-2.ensures.value in
-    let e = c.in_err-used-in-Act.field-0.0 in
-    given-as E N _ _ judged c.from_residual-in_err-used-in-Act.result asks
-    (passed E N _ judged c.from_residual-in_err-used-in-Act.result e c.from_residual-in_err-used-in-Act.ensures.1
-    (two-refused-first E N p Γ (act_need a (k + m)) (at rule.Act 1) (at rule.Act 1) bs cs (term S.ty) ts ss none d z c.in_ok-signature-in-Act.ensures.gives e (rw b at c.in_err-used-in-Act.ensures.gives)))
+    given-as E N _ _ judged c.action_row.result (ap (infer E p Γ) form)
+    (subst (λ xs. Gives E N (infer E p Γ (act_parts (action c.in-Act.kind) ts xs)) judged c.action_row.result) b
+    (subst (λ xs. Gives E N (infer E p Γ (act_parts (action c.in-Act.kind) xs c.deref-in-Act-2.result.now)) judged c.action_row.result) a c.action_row.ensures.gives))
 
-pub judge-returns-in_err-more-in-Act-clause-gives : goal.judge-returns-in_err-more-in-Act-clause-gives
-judge-returns-in_err-more-in-Act-clause-gives g t c =
+pub judge-returns-in-Trap-clause-gives : goal.judge-returns-in-Trap-clause-gives
+judge-returns-in-Trap-clause-gives g t c =
     let E = env c.args.self.now.globals.now in
     let N = c.args.self.now.budget in
     let p = part c.args.sigma in
     let Γ = ctx c.args.scope.now in
-    let a = action c.in-Act.kind in
-    let ts = c.in-Act.types.items in
-    let ss = c.in-Act.args.items in
-    let form : term c.args.t.now ≡ act_parts a ts ss = search (rules, the_lemmas) in
-    let k = c.len-in-Act.result in
-    let m = c.len-in-Act-2.result in
-    let l : k ≡ length ts = c.len-in-Act.ensures ∙ omega (arith, c.in-Act.types.ok.0) in
-    let o : m ≡ length ss = c.len-in-Act-2.ensures ∙ omega (arith, c.in-Act.args.ok.0) in
-    let S = c.in_ok-signature-in-Act.signature in
-    let bs = c.split_at.result.0.now in
-    let cs = c.split_at.result.1.now in
-    let at_len = c.len-in-Act-3.result in
-    let split : S.arguments.items ≡ bs ++ cs = sym (take-append-drop at_len S.arguments.items) ∙ sym (ap₂ (λ x y. x ++ y) (rw c.deref-in-Act.ensures.value at c.split_at.ensures.front) (rw c.deref-in-Act.ensures.value at c.split_at.ensures.back)) in
-    let none = c.new-values-in-Act.result.items in
-    let d : none ≡ [] = c.new-values-in-Act.ensures.items in
-    let asks = ap (infer E p Γ) form ∙ act-lists E p Γ a ts ss k m l o S c.in_ok-signature-in-Act.ensures.signature bs cs split in
-    let z : length bs ≡ length ts = c.split_at.ensures.front_len ∙ c.len-in-Act-3.ensures ∙ omega (arith, c.in-Act.types.ok.0) in
-    let b = c.deref-in-Act-2.ensures.value in
-    let vs = c.arguments-in-Act.new.values.items in
-    let v = rw b at c.in_ok-used-in-Act.ensures.values in
-    let b2 = c.deref-in-Act-3.ensures.value in
-    let h = rw b at c.in_ok-used-in-Act.ensures.gives in
-    let e = c.in_err-more-in-Act.field-0.0 in
-    given-as E N _ _ judged c.from_residual-in_err-more-in-Act.result asks
-    (passed E N _ judged c.from_residual-in_err-more-in-Act.result e c.from_residual-in_err-more-in-Act.ensures.1
-    (two-refused-second E N p Γ (act_need a (k + m)) (at rule.Act 1) (at rule.Act 1) bs cs (term S.ty) ts ss none d z c.in_ok-signature-in-Act.ensures.gives vs c.in_ok-used-in-Act.used v h e (rw b2 at c.in_err-more-in-Act.ensures.gives)))
-
-pub judge-returns-in_ok-more-in-Act-clause-gives : goal.judge-returns-in_ok-more-in-Act-clause-gives
-judge-returns-in_ok-more-in-Act-clause-gives g t c =
-    let E = env c.args.self.now.globals.now in
-    let N = c.args.self.now.budget in
-    let p = part c.args.sigma in
-    let Γ = ctx c.args.scope.now in
-    let a = action c.in-Act.kind in
-    let ts = c.in-Act.types.items in
-    let ss = c.in-Act.args.items in
-    let form : term c.args.t.now ≡ act_parts a ts ss = search (rules, the_lemmas, c.in-Act.is) in
-    let k = c.len-in-Act.result in
-    let m = c.len-in-Act-2.result in
-    let l : k ≡ length ts = c.len-in-Act.ensures ∙ omega (arith, c.in-Act.types.ok.0) in
-    let o : m ≡ length ss = c.len-in-Act-2.ensures ∙ omega (arith, c.in-Act.args.ok.0) in
-    let S = c.in_ok-signature-in-Act.signature in
-    let bs = c.split_at.result.0.now in
-    let cs = c.split_at.result.1.now in
-    let at_len = c.len-in-Act-3.result in
-    let split : S.arguments.items ≡ bs ++ cs = sym (take-append-drop at_len S.arguments.items) ∙ sym (ap₂ (λ x y. x ++ y) (rw c.deref-in-Act.ensures.value at c.split_at.ensures.front) (rw c.deref-in-Act.ensures.value at c.split_at.ensures.back)) in
-    let none = c.new-values-in-Act.result.items in
-    let d : none ≡ [] = c.new-values-in-Act.ensures.items in
-    let asks = ap (infer E p Γ) form ∙ act-lists E p Γ a ts ss k m l o S c.in_ok-signature-in-Act.ensures.signature bs cs split in
-    let z : length bs ≡ length ts = c.split_at.ensures.front_len ∙ c.len-in-Act-3.ensures ∙ omega (arith, c.in-Act.types.ok.0) in
-    let b = c.deref-in-Act-2.ensures.value in
-    let vs = c.arguments-in-Act.new.values.items in
-    let v = rw b at c.in_ok-used-in-Act.ensures.values in
-    let b2 = c.deref-in-Act-3.ensures.value in
-    let h = rw b at c.in_ok-used-in-Act.ensures.gives in
-    let ws = c.arguments-in-Act-2.new.values.items in
-    let w = c.deref-in-Act-4.ensures.value in
-    let us : c.add-in-Act.new.self ≡ usage_sum c.in_ok-used-in-Act.used c.in_ok-more-in-Act.more = c.add-in-Act.ensures.uses in
-    given-as E N _ _ judged c.applied-in-Act.result asks
-    (finished _ judged c.applied-in-Act.result
-    (two-are E N p Γ (act_need a (k + m)) (at rule.Act 1) (at rule.Act 1) bs cs (term S.ty) ts ss none d z c.in_ok-signature-in-Act.ensures.gives vs c.in_ok-used-in-Act.used v h
-    ws c.in_ok-more-in-Act.more S.ty c.in_ok-more-in-Act.ensures.len (rw b2 at c.in_ok-more-in-Act.ensures.values) refl (rw b2 at c.in_ok-more-in-Act.ensures.gives))
-    (rw (w, us) at c.applied-in-Act.ensures.gives))
-
-pub judge-returns-in_err-type_of-in-Trap-clause-gives : goal.judge-returns-in_err-type_of-in-Trap-clause-gives
-judge-returns-in_err-type_of-in-Trap-clause-gives g t c =
-    let form : term c.args.t.now ≡ Trap (term c.deref-in-Trap.result.now) = search (rules, the_lemmas) in rw form (passed _ _ _ _ c.from_residual-in_err-type_of-in-Trap.result c.in_err-type_of-in-Trap.field-0.0 c.from_residual-in_err-type_of-in-Trap.ensures.1 (here _ _ _ _ _ c.in_err-type_of-in-Trap.ensures))
-
-pub judge-returns-in_ok-copy-in-Trap-clause-gives : goal.judge-returns-in_ok-copy-in-Trap-clause-gives
-judge-returns-in_ok-copy-in-Trap-clause-gives g t c =
-    let copied : term c.deref-in-Trap.result.now ≡ term c.in_ok-copy-in-Trap.field-0 = search rules in let form : term c.args.t.now ≡ Trap (term c.deref-in-Trap.result.now) = search (rules, the_lemmas) in rw form (finished _ judged c.plain_row-in-Trap.result (reached (on _ c.in_ok-type_of-in-Trap.ensures on_done) (ap (λ A. inferred A (no_usage (length (ctx c.args.scope.now)))) copied)) c.plain_row-in-Trap.ensures.gives)
+    let form : term c.args.t.now ≡ Trap (term c.deref-in-Trap.result.now) = search (rules, the_lemmas) in
+    given-as E N _ _ judged c.trap_row.result (ap (infer E p Γ) form) (c.trap_row.ensures.gives p)
 
 pub judge-returns-in-Lit-clause-gives : goal.judge-returns-in-Lit-clause-gives
 judge-returns-in-Lit-clause-gives g t c =
@@ -547,6 +173,487 @@ judge-returns-in-HandleTy-clause-gives g t c =
     given-as E N _ _ judged c.plain_row-in-HandleTy.result (ap (infer E p Γ) form)
     (finished _ judged c.plain_row-in-HandleTy.result (handle-is Γ p) (rw (sort-seen 0) at c.plain_row-in-HandleTy.ensures.gives))
 
+-- ---- rows
+pub pi_row-returns-in_err-first-clause-gives : goal.pi_row-returns-in_err-first-clause-gives
+pi_row-returns-in_err-first-clause-gives g t c =
+    λ p.
+    passed _ _ _ _ c.from_residual.result c.in_err-first.field-0.0 c.from_residual.ensures.1
+    (here _ _ _ _ _ c.in_err-first.ensures)
+
+pub pi_row-returns-in_err-second-clause-gives : goal.pi_row-returns-in_err-second-clause-gives
+pi_row-returns-in_err-second-clause-gives g t c =
+    λ p.
+    passed _ _ _ _ c.from_residual-in_err-second.result c.in_err-second.field-0.0 c.from_residual-in_err-second.ensures.1
+    (later _ _ _ _ _ c.in_ok-first.ensures (here _ _ _ _ _ c.in_err-second.ensures))
+
+pub pi_row-returns-clause-gives : goal.pi_row-returns-clause-gives
+pi_row-returns-clause-gives g t c =
+    λ p. finished _ judged c.pi_end.result (on _ c.in_ok-first.ensures (on _ c.in_ok-second.ensures on_done)) c.pi_end.ensures.gives
+
+pub lam_row-returns-in_err-type_of-clause-gives : goal.lam_row-returns-in_err-type_of-clause-gives
+lam_row-returns-in_err-type_of-clause-gives g t c =
+    passed _ _ _ _ c.from_residual.result c.in_err-type_of.field-0.0 c.from_residual.ensures.1
+    (here _ _ _ _ _ c.in_err-type_of.ensures)
+
+pub lam_row-returns-in_err-found-clause-gives : goal.lam_row-returns-in_err-found-clause-gives
+lam_row-returns-in_err-found-clause-gives g t c =
+    passed _ _ _ _ c.from_residual-in_err-found.result c.in_err-found.field-0.0 c.from_residual-in_err-found.ensures.1
+    (later _ _ _ _ _ c.in_ok-type_of.ensures (here _ _ _ _ _ c.in_err-found.ensures.gives))
+
+pub lam_row-returns-clause-gives : goal.lam_row-returns-clause-gives
+lam_row-returns-clause-gives g t c =
+    tail _ _ _ _ _ c.lam_end.result c.in_ok-type_of.ensures (tail _ _ _ _ _ c.lam_end.result c.in_ok-found.ensures.gives c.lam_end.ensures.gives)
+
+pub lam_row-lam_end-requires : goal.lam_row-lam_end-requires
+lam_row-lam_end-requires g t c =
+    omega (arith, c.in_ok-found.ensures.len)
+
+pub lam_row-returns-clause-len : goal.lam_row-returns-clause-len
+lam_row-returns-clause-len g t c =
+    if-ok (λ j. length j.uses + 1 ≡ length c.in_ok-found.found.uses) (λ j. length j.uses ≡ length (ctx c.args.scope.now)) c.lam_end.result
+    (λ j h. omega (arith, h, c.in_ok-found.ensures.len)) c.lam_end.ensures.len
+
+pub app_row-returns-in_err-left-clause-gives : goal.app_row-returns-in_err-left-clause-gives
+app_row-returns-in_err-left-clause-gives g t c =
+    passed _ _ _ _ c.from_residual.result c.in_err-left.field-0.0 c.from_residual.ensures.1
+    (here _ _ _ _ _ c.in_err-left.ensures.gives)
+
+pub app_row-returns-in_err-pi-clause-gives : goal.app_row-returns-in_err-pi-clause-gives
+app_row-returns-in_err-pi-clause-gives g t c =
+    passed _ _ _ _ c.from_residual-in_err-pi.result c.in_err-pi.field-0.0 c.from_residual-in_err-pi.ensures.1
+    (later _ _ _ _ _ c.in_ok-left.ensures.gives (here _ _ _ _ _ c.in_err-pi.ensures))
+
+pub app_row-returns-then-not-same_mult-clause-gives : goal.app_row-returns-then-not-same_mult-clause-gives
+app_row-returns-then-not-same_mult-clause-gives g t c =
+    fails_later _ c.in_ok-left.ensures.gives (fails_later _ c.in_ok-pi.ensures (fails_here _ (unmet _ _ (search rules))))
+
+pub app_row-returns-in_err-used-clause-gives : goal.app_row-returns-in_err-used-clause-gives
+app_row-returns-in_err-used-clause-gives g t c =
+    let inside = c.under-inside.ensures in
+    passed _ _ _ _ c.from_residual-in_err-used.result c.in_err-used.field-0.0 c.from_residual-in_err-used.ensures.1
+    (later _ _ _ _ _ c.in_ok-left.ensures.gives (later _ _ _ _ _ c.in_ok-pi.ensures
+    (later _ _ _ _ _ (holds _ _ (search rules)) (here _ _ _ _ _ (rw inside at c.in_err-used.ensures.gives)))))
+
+pub app_row-returns-clause-gives : goal.app_row-returns-clause-gives
+app_row-returns-clause-gives g t c =
+    let inside = c.under-inside.ensures in
+    finished _ judged c.app_end.result
+    (on _ c.in_ok-left.ensures.gives (on _ c.in_ok-pi.ensures (on _ (holds _ _ (search rules)) (on _ (rw inside at c.in_ok-used.ensures.gives) on_done))))
+    c.app_end.ensures.gives
+
+pub family_row-returns-in_err-signature-clause-gives : goal.family_row-returns-in_err-signature-clause-gives
+family_row-returns-in_err-signature-clause-gives g t c =
+    let E = env c.args.self.now.globals.now in
+    let N = c.args.self.now.budget in
+    let p = part c.args.sigma in
+    let Γ = ctx c.args.scope.now in
+    let f = c.args.id in
+    let ts = c.args.args.now in
+    let asks = fam-asks E p Γ f (terms ts) in
+    let Θ = erase_binds ((fam_at E f).params ++ (fam_at E f).indices) in
+    let A = Sort (fam_at E f).level in
+    let e = c.in_err-signature.field-0.0 in
+    given-as E N _ _ judged c.from_residual.result asks
+    (passed E N _ judged c.from_residual.result e c.from_residual.ensures.1
+    (one-uncounted E N p Γ (fam_need E f) (at rule.Fam 1) Θ A ts (length ts) refl e c.in_err-signature.ensures.gives))
+
+pub family_row-returns-in_err-used-clause-gives : goal.family_row-returns-in_err-used-clause-gives
+family_row-returns-in_err-used-clause-gives g t c =
+    let E = env c.args.self.now.globals.now in
+    let N = c.args.self.now.budget in
+    let p = part c.args.sigma in
+    let Γ = ctx c.args.scope.now in
+    let f = c.args.id in
+    let ts = c.args.args.now in
+    let asks = fam-asks E p Γ f (terms ts) in
+    let Θ = erase_binds ((fam_at E f).params ++ (fam_at E f).indices) in
+    let A = Sort (fam_at E f).level in
+    let S = c.in_ok-signature.signature in
+    let bs = S.arguments.items in
+    let none = c.new-values.result.items in
+    let d : none ≡ [] = c.new-values.ensures.items in
+    let b = c.deref.ensures.value in
+    let e = c.in_err-used.field-0.0 in
+    given-as E N _ _ judged c.from_residual-in_err-used.result asks
+    (passed E N _ judged c.from_residual-in_err-used.result e c.from_residual-in_err-used.ensures.1
+    (one-refused E N p Γ (fam_need E f) (at rule.Fam 1) Θ A ts (length ts) refl bs none c.in_ok-signature.ensures.arguments d c.in_ok-signature.ensures.gives e
+    (rw b at c.in_err-used.ensures.gives)))
+
+pub family_row-returns-clause-gives : goal.family_row-returns-clause-gives
+family_row-returns-clause-gives g t c =
+    let E = env c.args.self.now.globals.now in
+    let N = c.args.self.now.budget in
+    let p = part c.args.sigma in
+    let Γ = ctx c.args.scope.now in
+    let f = c.args.id in
+    let ts = c.args.args.now in
+    let asks = fam-asks E p Γ f (terms ts) in
+    let Θ = erase_binds ((fam_at E f).params ++ (fam_at E f).indices) in
+    let A = Sort (fam_at E f).level in
+    let S = c.in_ok-signature.signature in
+    let bs = S.arguments.items in
+    let none = c.new-values.result.items in
+    let d : none ≡ [] = c.new-values.ensures.items in
+    let b = c.deref.ensures.value in
+    let vs = c.arguments.new.values.items in
+    let w = c.deref-2.ensures.value in
+    given-as E N _ _ judged c.applied.result asks
+    (finished _ judged c.applied.result
+    (one-is E N p Γ (fam_need E f) (at rule.Fam 1) Θ A ts (length ts) refl bs none c.in_ok-signature.ensures.arguments d c.in_ok-signature.ensures.gives
+    vs S.ty c.in_ok-used.used c.in_ok-used.ensures.values c.in_ok-signature.ensures.ty (rw b at c.in_ok-used.ensures.gives))
+    (rw w at c.applied.ensures.gives))
+
+pub family_row-arguments-requires : goal.family_row-arguments-requires
+family_row-arguments-requires g t c =
+    let counted : length c.deref.result.now ≡ length c.args.args.now = ap length c.deref.ensures.value ∙ c.in_ok-signature.ensures.len in
+    λ κs within. (search rules, (within, counted))
+
+pub primitive_row-returns-in_err-signature-clause-gives : goal.primitive_row-returns-in_err-signature-clause-gives
+primitive_row-returns-in_err-signature-clause-gives g t c =
+    let E = env c.args.self.now.globals.now in
+    let N = c.args.self.now.budget in
+    let p = part c.args.sigma in
+    let Γ = ctx c.args.scope.now in
+    let q = c.args.prim in
+    let ts = c.args.args.now in
+    let asks = named-asks E p Γ (Named.prim q) (terms ts) refl (prim-many q) in
+    let Θ = (prim_signature q).arguments in
+    let A = (prim_signature q).type in
+    let e = c.in_err-signature.field-0.0 in
+    given-as E N _ _ judged c.from_residual.result asks
+    (passed E N _ judged c.from_residual.result e c.from_residual.ensures.1
+    (one-uncounted E N p Γ (named_need E (Named.prim q)) (at rule.Prim 1) Θ A ts (length ts) refl e c.in_err-signature.ensures.gives))
+
+pub primitive_row-returns-in_err-used-clause-gives : goal.primitive_row-returns-in_err-used-clause-gives
+primitive_row-returns-in_err-used-clause-gives g t c =
+    let E = env c.args.self.now.globals.now in
+    let N = c.args.self.now.budget in
+    let p = part c.args.sigma in
+    let Γ = ctx c.args.scope.now in
+    let q = c.args.prim in
+    let ts = c.args.args.now in
+    let asks = named-asks E p Γ (Named.prim q) (terms ts) refl (prim-many q) in
+    let Θ = (prim_signature q).arguments in
+    let A = (prim_signature q).type in
+    let S = c.in_ok-signature.signature in
+    let bs = S.arguments.items in
+    let none = c.new-values.result.items in
+    let d : none ≡ [] = c.new-values.ensures.items in
+    let b = c.deref.ensures.value in
+    let e = c.in_err-used.field-0.0 in
+    given-as E N _ _ judged c.from_residual-in_err-used.result asks
+    (passed E N _ judged c.from_residual-in_err-used.result e c.from_residual-in_err-used.ensures.1
+    (one-refused E N p Γ (named_need E (Named.prim q)) (at rule.Prim 1) Θ A ts (length ts) refl bs none (ap (λ s. s.arguments) c.in_ok-signature.ensures.signature) d c.in_ok-signature.ensures.gives e
+    (rw b at c.in_err-used.ensures.gives)))
+
+pub primitive_row-returns-clause-gives : goal.primitive_row-returns-clause-gives
+primitive_row-returns-clause-gives g t c =
+    let E = env c.args.self.now.globals.now in
+    let N = c.args.self.now.budget in
+    let p = part c.args.sigma in
+    let Γ = ctx c.args.scope.now in
+    let q = c.args.prim in
+    let ts = c.args.args.now in
+    let asks = named-asks E p Γ (Named.prim q) (terms ts) refl (prim-many q) in
+    let Θ = (prim_signature q).arguments in
+    let A = (prim_signature q).type in
+    let S = c.in_ok-signature.signature in
+    let bs = S.arguments.items in
+    let none = c.new-values.result.items in
+    let d : none ≡ [] = c.new-values.ensures.items in
+    let b = c.deref.ensures.value in
+    let vs = c.arguments.new.values.items in
+    let w = c.deref-2.ensures.value in
+    given-as E N _ _ judged c.applied.result asks
+    (finished _ judged c.applied.result
+    (one-is E N p Γ (named_need E (Named.prim q)) (at rule.Prim 1) Θ A ts (length ts) refl bs none (ap (λ s. s.arguments) c.in_ok-signature.ensures.signature) d c.in_ok-signature.ensures.gives
+    vs S.ty c.in_ok-used.used c.in_ok-used.ensures.values (ap (λ s. s.type) c.in_ok-signature.ensures.signature) (rw b at c.in_ok-used.ensures.gives))
+    (rw w at c.applied.ensures.gives))
+
+pub primitive_row-arguments-requires : goal.primitive_row-arguments-requires
+primitive_row-arguments-requires g t c =
+    let counted : length c.deref.result.now ≡ length c.args.args.now = ap length c.deref.ensures.value ∙ c.in_ok-signature.ensures.len in
+    λ κs within. (search rules, (within, counted))
+
+pub constructor_row-returns-in_err-made-clause-gives : goal.constructor_row-returns-in_err-made-clause-gives
+constructor_row-returns-in_err-made-clause-gives g t c =
+    let E = env c.args.self.now.globals.now in
+    let N = c.args.self.now.budget in
+    let p = part c.args.sigma in
+    let Γ = ctx c.args.scope.now in
+    let f = c.args.con.family in
+    let i = c.args.con.place in
+    let ts = c.args.params.now in
+    let ss = c.args.fields.now in
+    let k = length ts in
+    let m = length ss in
+    let e = c.in_err-made.field-0.0 in
+    passed E N _ judged c.from_residual.result e c.from_residual.ensures.1
+    (con-uncounted-parts E N p Γ f i ts ss k m refl refl e c.in_err-made.ensures.gives)
+
+pub constructor_row-returns-in_err-used-clause-gives : goal.constructor_row-returns-in_err-used-clause-gives
+constructor_row-returns-in_err-used-clause-gives g t c =
+    let E = env c.args.self.now.globals.now in
+    let N = c.args.self.now.budget in
+    let p = part c.args.sigma in
+    let Γ = ctx c.args.scope.now in
+    let f = c.args.con.family in
+    let i = c.args.con.place in
+    let ts = c.args.params.now in
+    let ss = c.args.fields.now in
+    let k = length ts in
+    let m = length ss in
+    let M = c.in_ok-made.made in
+    let bs = M.params.items in
+    let cs = M.fields.items in
+    let none = c.new-values.result.items in
+    let d : none ≡ [] = c.new-values.ensures.items in
+    let asks = con-lists E p Γ f i ts ss k m refl refl M c.in_ok-made.ensures.made bs cs refl refl in
+    let z : length bs ≡ length ts = c.in_ok-made.ensures.params in
+    let b = c.deref.ensures.value in
+    let e = c.in_err-used.field-0.0 in
+    given-as E N _ _ judged c.from_residual-in_err-used.result asks
+    (passed E N _ judged c.from_residual-in_err-used.result e c.from_residual-in_err-used.ensures.1
+    (two-refused-first E N p Γ (con_need E f i k (k + m)) (at rule.Con 1) (at rule.Con 2) bs cs (term M.ty) ts ss none d z c.in_ok-made.ensures.gives e
+    (rw b at c.in_err-used.ensures.gives)))
+
+pub constructor_row-returns-in_err-more-clause-gives : goal.constructor_row-returns-in_err-more-clause-gives
+constructor_row-returns-in_err-more-clause-gives g t c =
+    let E = env c.args.self.now.globals.now in
+    let N = c.args.self.now.budget in
+    let p = part c.args.sigma in
+    let Γ = ctx c.args.scope.now in
+    let f = c.args.con.family in
+    let i = c.args.con.place in
+    let ts = c.args.params.now in
+    let ss = c.args.fields.now in
+    let k = length ts in
+    let m = length ss in
+    let M = c.in_ok-made.made in
+    let bs = M.params.items in
+    let cs = M.fields.items in
+    let none = c.new-values.result.items in
+    let d : none ≡ [] = c.new-values.ensures.items in
+    let asks = con-lists E p Γ f i ts ss k m refl refl M c.in_ok-made.ensures.made bs cs refl refl in
+    let z : length bs ≡ length ts = c.in_ok-made.ensures.params in
+    let b = c.deref.ensures.value in
+    let vs = c.arguments.new.values.items in
+    let v = c.in_ok-used.ensures.values in
+    let b2 = c.deref-2.ensures.value in
+    let h = rw b at c.in_ok-used.ensures.gives in
+    let e = c.in_err-more.field-0.0 in
+    given-as E N _ _ judged c.from_residual-in_err-more.result asks
+    (passed E N _ judged c.from_residual-in_err-more.result e c.from_residual-in_err-more.ensures.1
+    (two-refused-second E N p Γ (con_need E f i k (k + m)) (at rule.Con 1) (at rule.Con 2) bs cs (term M.ty) ts ss none d z c.in_ok-made.ensures.gives
+    vs c.in_ok-used.used v h e (rw b2 at c.in_err-more.ensures.gives)))
+
+pub constructor_row-returns-clause-gives : goal.constructor_row-returns-clause-gives
+constructor_row-returns-clause-gives g t c =
+    let E = env c.args.self.now.globals.now in
+    let N = c.args.self.now.budget in
+    let p = part c.args.sigma in
+    let Γ = ctx c.args.scope.now in
+    let f = c.args.con.family in
+    let i = c.args.con.place in
+    let ts = c.args.params.now in
+    let ss = c.args.fields.now in
+    let k = length ts in
+    let m = length ss in
+    let M = c.in_ok-made.made in
+    let bs = M.params.items in
+    let cs = M.fields.items in
+    let none = c.new-values.result.items in
+    let d : none ≡ [] = c.new-values.ensures.items in
+    let asks = con-lists E p Γ f i ts ss k m refl refl M c.in_ok-made.ensures.made bs cs refl refl in
+    let z : length bs ≡ length ts = c.in_ok-made.ensures.params in
+    let b = c.deref.ensures.value in
+    let vs = c.arguments.new.values.items in
+    let v = c.in_ok-used.ensures.values in
+    let b2 = c.deref-2.ensures.value in
+    let h = rw b at c.in_ok-used.ensures.gives in
+    let ws = c.arguments-2.new.values.items in
+    let w = c.deref-3.ensures.value in
+    let us : c.add.new.self ≡ usage_sum c.in_ok-used.used c.in_ok-more.more = c.add.ensures.uses in
+    given-as E N _ _ judged c.applied.result asks
+    (finished _ judged c.applied.result
+    (two-are E N p Γ (con_need E f i k (k + m)) (at rule.Con 1) (at rule.Con 2) bs cs (term M.ty) ts ss none d z c.in_ok-made.ensures.gives
+    vs c.in_ok-used.used v h ws c.in_ok-more.more M.ty c.in_ok-more.ensures.len c.in_ok-more.ensures.values refl
+    (rw b2 at c.in_ok-more.ensures.gives))
+    (rw (w, us) at c.applied.ensures.gives))
+
+pub constructor_row-arguments-requires : goal.constructor_row-arguments-requires
+constructor_row-arguments-requires g t c =
+    let counted : length c.deref.result.now ≡ length c.args.params.now = ap length c.deref.ensures.value ∙ c.in_ok-made.ensures.params in
+    λ κs within. (search rules, (within, counted))
+
+pub constructor_row-arguments-requires-2 : goal.constructor_row-arguments-requires-2
+constructor_row-arguments-requires-2 g t c =
+    let counted : length c.deref-2.result.now ≡ length c.args.fields.now = ap length c.deref-2.ensures.value ∙ c.in_ok-made.ensures.fields in
+    λ κs within. (search rules, (within, counted))
+
+pub io_row-returns-in_err-used-clause-gives : goal.io_row-returns-in_err-used-clause-gives
+io_row-returns-in_err-used-clause-gives g t c =
+    λ p m.
+    let E = env c.args.self.now.globals.now in
+    let N = c.args.self.now.budget in
+    let Γ = ctx c.args.scope.now in
+    let e = c.in_err-used.field-0.0 in
+    passed E N _ judged c.from_residual.result e c.from_residual.ensures.1
+    (io-refused E N p Γ m (term c.args.of.now) e (rw (sort-seen 0) at c.in_err-used.ensures.gives))
+
+pub io_row-returns-clause-gives : goal.io_row-returns-clause-gives
+io_row-returns-clause-gives g t c =
+    λ p m.
+    let E = env c.args.self.now.globals.now in
+    let N = c.args.self.now.budget in
+    let Γ = ctx c.args.scope.now in
+    let us = c.in_ok-used.used in
+    reached (io-is p Γ m (term c.args.of.now) us c.in_ok-used.ensures.len (rw (sort-seen 0) at c.in_ok-used.ensures.gives))
+    (sym c.io_end.ensures.gives)
+
+pub action_row-returns-in_err-signature-clause-gives : goal.action_row-returns-in_err-signature-clause-gives
+action_row-returns-in_err-signature-clause-gives g t c =
+    let E = env c.args.self.now.globals.now in
+    let N = c.args.self.now.budget in
+    let p = part c.args.sigma in
+    let Γ = ctx c.args.scope.now in
+    let a = action c.args.kind in
+    let ts = c.args.types.now in
+    let ss = c.args.args.now in
+    let k = length ts in
+    let m = length ss in
+    let e = c.in_err-signature.field-0.0 in
+    passed E N _ judged c.from_residual.result e c.from_residual.ensures.1
+    (act-uncounted E N p Γ a ts ss k m refl refl e c.in_err-signature.ensures.gives)
+
+pub action_row-returns-in_err-used-clause-gives : goal.action_row-returns-in_err-used-clause-gives
+action_row-returns-in_err-used-clause-gives g t c =
+    let E = env c.args.self.now.globals.now in
+    let N = c.args.self.now.budget in
+    let p = part c.args.sigma in
+    let Γ = ctx c.args.scope.now in
+    let a = action c.args.kind in
+    let ts = c.args.types.now in
+    let ss = c.args.args.now in
+    let k = length ts in
+    let m = length ss in
+    let S = c.in_ok-signature.signature in
+    let bs = c.split_at.result.0.now in
+    let cs = c.split_at.result.1.now in
+    let front = rw c.deref.ensures.value at c.split_at.ensures.front in
+    let back = rw c.deref.ensures.value at c.split_at.ensures.back in
+    let split : S.arguments.items ≡ bs ++ cs =
+    sym (take-append-drop (length c.args.types.now) S.arguments.items) ∙ sym (ap₂ (λ x y. x ++ y) front back) in
+    let none = c.new-values.result.items in
+    let d : none ≡ [] = c.new-values.ensures.items in
+    let asks = act-lists E p Γ a ts ss k m refl refl S c.in_ok-signature.ensures.signature bs cs split in
+    let z : length bs ≡ length ts = c.split_at.ensures.front_len in
+    let e = c.in_err-used.field-0.0 in
+    given-as E N _ _ judged c.from_residual-in_err-used.result asks
+    (passed E N _ judged c.from_residual-in_err-used.result e c.from_residual-in_err-used.ensures.1
+    (two-refused-first E N p Γ (act_need a (k + m)) (at rule.Act 1) (at rule.Act 1) bs cs (term S.ty) ts ss none d z c.in_ok-signature.ensures.gives e
+    c.in_err-used.ensures.gives))
+
+pub action_row-returns-in_err-more-clause-gives : goal.action_row-returns-in_err-more-clause-gives
+action_row-returns-in_err-more-clause-gives g t c =
+    let E = env c.args.self.now.globals.now in
+    let N = c.args.self.now.budget in
+    let p = part c.args.sigma in
+    let Γ = ctx c.args.scope.now in
+    let a = action c.args.kind in
+    let ts = c.args.types.now in
+    let ss = c.args.args.now in
+    let k = length ts in
+    let m = length ss in
+    let S = c.in_ok-signature.signature in
+    let bs = c.split_at.result.0.now in
+    let cs = c.split_at.result.1.now in
+    let front = rw c.deref.ensures.value at c.split_at.ensures.front in
+    let back = rw c.deref.ensures.value at c.split_at.ensures.back in
+    let split : S.arguments.items ≡ bs ++ cs =
+    sym (take-append-drop (length c.args.types.now) S.arguments.items) ∙ sym (ap₂ (λ x y. x ++ y) front back) in
+    let none = c.new-values.result.items in
+    let d : none ≡ [] = c.new-values.ensures.items in
+    let asks = act-lists E p Γ a ts ss k m refl refl S c.in_ok-signature.ensures.signature bs cs split in
+    let z : length bs ≡ length ts = c.split_at.ensures.front_len in
+    let vs = c.arguments.new.values.items in
+    let v = c.in_ok-used.ensures.values in
+    let h = c.in_ok-used.ensures.gives in
+    let e = c.in_err-more.field-0.0 in
+    given-as E N _ _ judged c.from_residual-in_err-more.result asks
+    (passed E N _ judged c.from_residual-in_err-more.result e c.from_residual-in_err-more.ensures.1
+    (two-refused-second E N p Γ (act_need a (k + m)) (at rule.Act 1) (at rule.Act 1) bs cs (term S.ty) ts ss none d z c.in_ok-signature.ensures.gives
+    vs c.in_ok-used.used v h e c.in_err-more.ensures.gives))
+
+pub action_row-returns-clause-gives : goal.action_row-returns-clause-gives
+action_row-returns-clause-gives g t c =
+    let E = env c.args.self.now.globals.now in
+    let N = c.args.self.now.budget in
+    let p = part c.args.sigma in
+    let Γ = ctx c.args.scope.now in
+    let a = action c.args.kind in
+    let ts = c.args.types.now in
+    let ss = c.args.args.now in
+    let k = length ts in
+    let m = length ss in
+    let S = c.in_ok-signature.signature in
+    let bs = c.split_at.result.0.now in
+    let cs = c.split_at.result.1.now in
+    let front = rw c.deref.ensures.value at c.split_at.ensures.front in
+    let back = rw c.deref.ensures.value at c.split_at.ensures.back in
+    let split : S.arguments.items ≡ bs ++ cs =
+    sym (take-append-drop (length c.args.types.now) S.arguments.items) ∙ sym (ap₂ (λ x y. x ++ y) front back) in
+    let none = c.new-values.result.items in
+    let d : none ≡ [] = c.new-values.ensures.items in
+    let asks = act-lists E p Γ a ts ss k m refl refl S c.in_ok-signature.ensures.signature bs cs split in
+    let z : length bs ≡ length ts = c.split_at.ensures.front_len in
+    let vs = c.arguments.new.values.items in
+    let v = c.in_ok-used.ensures.values in
+    let h = c.in_ok-used.ensures.gives in
+    let ws = c.arguments-2.new.values.items in
+    let w = c.deref-2.ensures.value in
+    let us : c.add.new.self ≡ usage_sum c.in_ok-used.used c.in_ok-more.more = c.add.ensures.uses in
+    given-as E N _ _ judged c.applied.result asks
+    (finished _ judged c.applied.result
+    (two-are E N p Γ (act_need a (k + m)) (at rule.Act 1) (at rule.Act 1) bs cs (term S.ty) ts ss none d z c.in_ok-signature.ensures.gives
+    vs c.in_ok-used.used v h ws c.in_ok-more.more S.ty c.in_ok-more.ensures.len c.in_ok-more.ensures.values refl c.in_ok-more.ensures.gives)
+    (rw (w, us) at c.applied.ensures.gives))
+
+pub action_row-arguments-requires : goal.action_row-arguments-requires
+action_row-arguments-requires g t c =
+    let counted : length c.split_at.result.0.now ≡ length c.args.types.now = c.split_at.ensures.front_len in
+    λ κs within. (search rules, (within, counted))
+
+pub action_row-arguments-requires-2 : goal.action_row-arguments-requires-2
+action_row-arguments-requires-2 g t c =
+    let S = c.in_ok-signature.signature in
+    let bs = c.split_at.result.0.now in
+    let cs = c.split_at.result.1.now in
+    let front = rw c.deref.ensures.value at c.split_at.ensures.front in
+    let back = rw c.deref.ensures.value at c.split_at.ensures.back in
+    let split : S.arguments.items ≡ bs ++ cs =
+    sym (take-append-drop (length c.args.types.now) S.arguments.items) ∙ sym (ap₂ (λ x y. x ++ y) front back) in
+    let whole : length S.arguments.items ≡ length bs + length cs = ap length split ∙ length-append bs cs in
+    let all : length S.arguments.items ≡ length c.args.types.now + length c.args.args.now = c.in_ok-signature.ensures.len in
+    let some : length bs ≡ length c.args.types.now = c.split_at.ensures.front_len in
+    let counted : length cs ≡ length c.args.args.now = omega (arith, whole, all, some) in
+    λ κs within. (search rules, (within, counted))
+
+pub trap_row-returns-in_err-type_of-clause-gives : goal.trap_row-returns-in_err-type_of-clause-gives
+trap_row-returns-in_err-type_of-clause-gives g t c =
+    λ p.
+    passed _ _ _ _ c.from_residual.result c.in_err-type_of.field-0.0 c.from_residual.ensures.1
+    (here _ _ _ _ _ c.in_err-type_of.ensures)
+
+pub trap_row-returns-clause-gives : goal.trap_row-returns-clause-gives
+trap_row-returns-clause-gives g t c =
+    λ p.
+    let Γ = ctx c.args.scope.now in
+    let copied : term c.args.of.now ≡ term c.in_ok-copy.field-0 = search rules in
+    finished _ judged c.plain_row.result (reached (on _ c.in_ok-type_of.ensures on_done) (ap (λ A. inferred A (no_usage (length Γ))) copied))
+    c.plain_row.ensures.gives
+
+-- ---- premises, arguments, matches and deletions
 pub has-returns-in_err-found-clause-gives : goal.has-returns-in_err-found-clause-gives
 has-returns-in_err-found-clause-gives g t c =
     passed _ _ _ _ c.from_residual.result c.in_err-found.field-0.0 c.from_residual.ensures.1 (here _ _ _ _ _ c.in_err-found.ensures.gives)
@@ -934,50 +1041,6 @@ delete-delete_end-requires g t c =
     c.in_ok-branch.ensures.len ∙ sym c.in_ok-used.ensures.len
 
 -- ---- what calls within the recursion ask
-pub judge-arguments-requires : goal.judge-arguments-requires
-judge-arguments-requires g t c =
-    let l : c.len.result ≡ length c.in-Fam.args.items = c.len.ensures ∙ omega (arith, c.in-Fam.args.ok.0) in
-    let counted : length c.deref-in-Fam.result.now ≡ length c.deref-in-Fam-2.result.now =
-    ap length c.deref-in-Fam.ensures.value ∙ c.in_ok-signature-in-Fam.ensures.len ∙ l ∙ sym (ap length c.deref-in-Fam-2.ensures.value) in
-    λ κs within. (search (rules, the_lemmas), (within, counted))
-
-pub judge-arguments-requires-in-Con : goal.judge-arguments-requires-in-Con
-judge-arguments-requires-in-Con g t c =
-    let l : c.len-in-Con.result ≡ length c.in-Con.params.items = c.len-in-Con.ensures ∙ omega (arith, c.in-Con.params.ok.0) in
-    let counted : length c.deref-in-Con.result.now ≡ length c.deref-in-Con-2.result.now =
-    ap length c.deref-in-Con.ensures.value ∙ c.in_ok-made-in-Con.ensures.params ∙ l ∙ sym (ap length c.deref-in-Con-2.ensures.value) in
-    λ κs within. (search (rules, the_lemmas), (within, counted))
-
-pub judge-arguments-requires-in-Con-2 : goal.judge-arguments-requires-in-Con-2
-judge-arguments-requires-in-Con-2 g t c =
-    let o : c.len-in-Con-2.result ≡ length c.in-Con.fields.items = c.len-in-Con-2.ensures ∙ omega (arith, c.in-Con.fields.ok.0) in
-    let counted : length c.deref-in-Con-3.result.now ≡ length c.deref-in-Con-4.result.now =
-    ap length c.deref-in-Con-3.ensures.value ∙ c.in_ok-made-in-Con.ensures.fields ∙ o ∙ sym (ap length c.deref-in-Con-4.ensures.value) in
-    λ κs within. (search (rules, the_lemmas), (within, counted))
-
-pub judge-arguments-requires-in-Act : goal.judge-arguments-requires-in-Act
-judge-arguments-requires-in-Act g t c =
-    let l : c.len-in-Act-3.result ≡ length c.in-Act.types.items = c.len-in-Act-3.ensures ∙ omega (arith, c.in-Act.types.ok.0) in
-    let counted : length c.split_at.result.0.now ≡ length c.deref-in-Act-2.result.now =
-    c.split_at.ensures.front_len ∙ l ∙ sym (ap length c.deref-in-Act-2.ensures.value) in
-    λ κs within. (search (rules, the_lemmas), (within, counted))
-
-pub judge-arguments-requires-in-Act-2 : goal.judge-arguments-requires-in-Act-2
-judge-arguments-requires-in-Act-2 g t c =
-    let S = c.in_ok-signature-in-Act.signature in
-    let bs = c.split_at.result.0.now in
-    let cs = c.split_at.result.1.now in
-    let at_len = c.len-in-Act-3.result in
-    let split : S.arguments.items ≡ bs ++ cs = sym (take-append-drop at_len S.arguments.items) ∙ sym (ap₂ (λ x y. x ++ y) (rw c.deref-in-Act.ensures.value at c.split_at.ensures.front) (rw c.deref-in-Act.ensures.value at c.split_at.ensures.back)) in
-    let whole : length S.arguments.items ≡ length bs + length cs = ap length split ∙ length-append bs cs in
-    let types : c.len-in-Act.result ≡ length c.in-Act.types.items = c.len-in-Act.ensures ∙ omega (arith, c.in-Act.types.ok.0) in
-    let args : c.len-in-Act-2.result ≡ length c.in-Act.args.items = c.len-in-Act-2.ensures ∙ omega (arith, c.in-Act.args.ok.0) in
-    let front : length bs ≡ length c.in-Act.types.items = c.split_at.ensures.front_len ∙ c.len-in-Act-3.ensures ∙ omega (arith, c.in-Act.types.ok.0) in
-    let given : length c.deref-in-Act-3.result.now ≡ length c.in-Act.args.items = ap length c.deref-in-Act-3.ensures.value in
-    let all : length S.arguments.items ≡ c.len-in-Act.result + c.len-in-Act-2.result = c.in_ok-signature-in-Act.ensures.len in
-    let counted : length c.split_at.result.1.now ≡ length c.deref-in-Act-3.result.now = omega (arith, whole, types, args, front, given, all) in
-    λ κs within. (search (rules, the_lemmas), (within, counted))
-
 pub case-arguments-requires : goal.case-arguments-requires
 case-arguments-requires g t c =
     let K = out-Case c.args.case.now in
