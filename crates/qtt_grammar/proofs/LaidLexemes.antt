@@ -72,22 +72,26 @@ finished_broken u (finished l e shut) = refl
 no_end : (s u : State) → s ≡ u → is_broken s ≡ false → Finished u → ⊥
 no_end s u e f g = let h = sym f ∙ ap is_broken e ∙ finished_broken u g in cc
 
-fresh_step : (l : Left) (bs : List Block) (k : ℕ) (q : Printed) (ps : List Printed) (v : State) (ms : List Laid) → Step (at l fresh bs k) q v → Shown ms (q ∷ ps) → Begins_token ms
+fresh_step : (l : Left) (bs : List Block) (k : ℕ) (q : Printed) (ps : List Printed) (v : State) (ms : List Laid)
+    → Step (at l fresh bs k) q v → Shown ms (q ∷ ps) → Begins_token ms
 fresh_step l bs k q ps v ms (plain_word {w} r i f) (p, (ns, (e, h))) = tokens_begin w p ms ns e
 fresh_step l bs k q ps v ms (opener_word {w} r i f) (p, (ns, (e, h))) = tokens_begin w p ms ns e
 fresh_step l bs k q ps v ms (left_bracket {w} r i f) (p, (ns, (e, h))) = tokens_begin w p ms ns e
 
-fresh_token : (l : Left) (bs : List Block) (k : ℕ) (ps : List Printed) (u : State) (ms : List Laid) → Runs (at l fresh bs k) ps u → Finished u → Shown ms ps → Begins_token ms
+fresh_token : (l : Left) (bs : List Block) (k : ℕ) (ps : List Printed) (u : State) (ms : List Laid) → Runs (at l fresh bs k) ps u
+    → Finished u → Shown ms ps → Begins_token ms
 fresh_token l bs k [] u ms e g h = absurd (no_end (at l fresh bs k) u e refl g)
 fresh_token l bs k (q ∷ ps) u ms (v, (t, r)) g h = fresh_step l bs k q ps v ms t h
 
-stepping_step : (l : Left) (e : Bool) (shut bs : List Block) (k : ℕ) (q : Printed) (ps : List Printed) (u v : State) (ms : List Laid) → Step (at l (stepping e shut) bs k) q v → Runs v ps u → Finished u → Shown ms (q ∷ ps) → Begins_token ms
+stepping_step : (l : Left) (e : Bool) (shut bs : List Block) (k : ℕ) (q : Printed) (ps : List Printed) (u v : State) (ms : List Laid)
+    → Step (at l (stepping e shut) bs k) q v → Runs v ps u → Finished u → Shown ms (q ∷ ps) → Begins_token ms
 stepping_step l e shut bs k q ps u v ms (begins_item {n} d w) r g h = fresh_token free bs k ps u ms r g h
 stepping_step l e shut bs k q ps u v ms (plain_word i j f) r g h = elim i [ ]
 stepping_step l e shut bs k q ps u v ms (opener_word i j f) r g h = elim i [ ]
 stepping_step l e shut bs k q ps u v ms (left_bracket i j f) r g h = elim i [ ]
 
-item_token : (l : Left) (e : Bool) (shut bs : List Block) (k : ℕ) (ps : List Printed) (u : State) (ms : List Laid) → Runs (at l (stepping e shut) bs k) ps u → Finished u → Shown ms ps → Begins_token ms
+item_token : (l : Left) (e : Bool) (shut bs : List Block) (k : ℕ) (ps : List Printed) (u : State) (ms : List Laid)
+    → Runs (at l (stepping e shut) bs k) ps u → Finished u → Shown ms ps → Begins_token ms
 item_token l e shut bs k [] u ms r g h = absurd (no_end (at l (stepping e shut) bs k) u r refl g)
 item_token l e shut bs k (q ∷ ps) u ms (v, (t, r)) g h = stepping_step l e shut bs k q ps u v ms t r g h
 
@@ -95,22 +99,27 @@ tokens_counted : (ts : List Token) (ns : List Laid) → counted ns ≡ ns → co
 tokens_counted [] ns e = e
 tokens_counted (t ∷ ts) ns e = ap (λ (v : List Laid). Tok t ∷ v) (tokens_counted ts ns e)
 
-shown_word : (w : Word) (ps : List Printed) (ms : List Laid) → Shown ms (word w ∷ ps) → ((ns : List Laid) → Shown ns ps → counted ns ≡ ns) → counted ms ≡ ms
+shown_word : (w : Word) (ps : List Printed) (ms : List Laid) → Shown ms (word w ∷ ps) → ((ns : List Laid) → Shown ns ps → counted ns ≡ ns)
+    → counted ms ≡ ms
 shown_word w ps ms (q, (ns, (e, h))) rest = ap counted e ∙ tokens_counted (word_tokens q w) ns (rest ns h) ∙ sym e
 
-pub shown_open : (ps : List Printed) (ms : List Laid) → Shown ms (opened ∷ ps) → ((ns : List Laid) → Shown ns ps → counted ns ≡ ns) → counted ms ≡ ms
+pub shown_open : (ps : List Printed) (ms : List Laid) → Shown ms (opened ∷ ps) → ((ns : List Laid) → Shown ns ps → counted ns ≡ ns)
+    → counted ms ≡ ms
 shown_open ps ms (s, (ns, (e, h))) rest = ap counted e ∙ ap (λ (v : List Laid). Open s ∷ v) (rest ns h) ∙ sym e
 
-shown_close : (ps : List Printed) (ms : List Laid) → Shown ms (closed ∷ ps) → ((ns : List Laid) → Shown ns ps → counted ns ≡ ns) → counted ms ≡ ms
+shown_close : (ps : List Printed) (ms : List Laid) → Shown ms (closed ∷ ps) → ((ns : List Laid) → Shown ns ps → counted ns ≡ ns)
+    → counted ms ≡ ms
 shown_close ps ms (s, (ns, (e, h))) rest = ap counted e ∙ ap (λ (v : List Laid). Close s ∷ v) (rest ns h) ∙ sym e
 
 next_kept : (s : Span) (ns : List Laid) → Begins_token ns → next_before s ns ≡ Next s ∷ ns
 next_kept s ns (t, (rest, e)) = ap (next_before s) e ∙ ap (λ (v : List Laid). Next s ∷ v) (sym e)
 
-shown_next : (ps : List Printed) (ms : List Laid) → Shown ms (next ∷ ps) → ((ns : List Laid) → Shown ns ps → Begins_token ns) → ((ns : List Laid) → Shown ns ps → counted ns ≡ ns) → counted ms ≡ ms
+shown_next : (ps : List Printed) (ms : List Laid) → Shown ms (next ∷ ps) → ((ns : List Laid) → Shown ns ps → Begins_token ns)
+    → ((ns : List Laid) → Shown ns ps → counted ns ≡ ns) → counted ms ≡ ms
 shown_next ps ms (s, (ns, (e, h))) begun rest = ap counted e ∙ ap (next_before s) (rest ns h) ∙ next_kept s ns (begun ns h) ∙ sym e
 
-counted_step : (x : Printed) (ps : List Printed) (s u v : State) (ms : List Laid) → Step s x v → Runs v ps u → Finished u → Shown ms (x ∷ ps) → ((ns : List Laid) → Shown ns ps → counted ns ≡ ns) → counted ms ≡ ms
+counted_step : (x : Printed) (ps : List Printed) (s u v : State) (ms : List Laid) → Step s x v → Runs v ps u → Finished u
+    → Shown ms (x ∷ ps) → ((ns : List Laid) → Shown ns ps → counted ns ≡ ns) → counted ms ≡ ms
 counted_step x ps s u v ms (plain_word {w} r i f) t g h rest = shown_word w ps ms h rest
 counted_step x ps s u v ms (opener_word {w} r i f) t g h rest = shown_word w ps ms h rest
 counted_step x ps s u v ms (left_bracket {w} r i f) t g h rest = shown_word w ps ms h rest
@@ -118,7 +127,8 @@ counted_step x ps s u v ms (right_bracket o d w) t g h rest = shown_word (sign (
 counted_step x ps s u v ms a_blank t g h rest = rest ms h
 counted_step x ps s u v ms (breaks n) t g h rest = rest ms h
 counted_step x ps s u v ms (resumes d w) t g h rest = rest ms h
-counted_step x ps s u v ms (ends_item {l} {e} {shut} {bs} {k}) t g h rest = shown_next ps ms h (λ ns j. item_token l e shut bs k ps u ns t g j) rest
+counted_step x ps s u v ms (ends_item {l} {e} {shut} {bs} {k}) t g h rest =
+    shown_next ps ms h (λ ns j. item_token l e shut bs k ps u ns t g j) rest
 counted_step x ps s u v ms (begins_item d w) t g h rest = rest ms h
 counted_step x ps s u v ms opens t g h rest = shown_open ps ms h rest
 counted_step x ps s u v ms (indents w) t g h rest = rest ms h
@@ -173,7 +183,8 @@ negative_unnumbered (d ∷ ds) n = refl
 
 word_unnumbered : {w : Word} {b : Left} {r : Role} → IsWord w b r → is_natural_word w ≡ false → is_natural (word_lexeme w).class ≡ false
 word_unnumbered (a_sign i) e = sign_unnumbered i
-word_unnumbered (a_name {n} f) e = cond_unnumbered (pointwise nat_eq n (codes "_")) class.Wildcard (name_class n) refl (named_unnumbered (name_class n) (name_is n))
+word_unnumbered (a_name {n} f) e =
+    cond_unnumbered (pointwise nat_eq n (codes "_")) class.Wildcard (name_class n) refl (named_unnumbered (name_class n) (name_is n))
 word_unnumbered (a_numeral {z = pos n} f) e = absurd cc
 word_unnumbered (a_numeral {z = negsuc n} f) e = negative_unnumbered (fmt.decimal (suc n)) n
 word_unnumbered a_type e = refl
@@ -207,13 +218,17 @@ follows_no_number : (l : Left) (w : Word) → Behind_type l → Follows l w → 
 follows_no_number l w directly f = brace_no_number w f
 follows_no_number l w behind_blank f = f
 
-type_step : (l : Left) (m : Mode) (bs : List Block) (k : ℕ) (x : Printed) (ps : List Printed) (v : State) → Behind_type l → Calm m → Step (at l m bs k) x v → ((d : Left) (n : Mode) (cs : List Block) (j : ℕ) → v ≡ at d n cs j → Behind_type d → Calm n → Unnumbered (sketched ps)) → Unnumbered (sketched (x ∷ ps))
+type_step : (l : Left) (m : Mode) (bs : List Block) (k : ℕ) (x : Printed) (ps : List Printed) (v : State) → Behind_type l → Calm m
+    → Step (at l m bs k) x v
+    → ((d : Left) (n : Mode) (cs : List Block) (j : ℕ) → v ≡ at d n cs j → Behind_type d → Calm n → Unnumbered (sketched ps))
+    → Unnumbered (sketched (x ∷ ps))
 type_step l m bs k x ps v b c (plain_word {w} r i f) rest = word_unnumbered i (follows_no_number l w b f)
 type_step l m bs k x ps v b c (opener_word {w} r i f) rest = word_unnumbered i (follows_no_number l w b f)
 type_step l m bs k x ps v b c (left_bracket {w} r i f) rest = word_unnumbered i (follows_no_number l w b f)
 type_step l m bs k x ps v b c (right_bracket o d u) rest = refl
 type_step l m bs k x ps v b c a_blank rest = rest (spaced l) (inline false []) bs k refl (spaced_type l b) (calm_inline false [])
-type_step l m bs k x ps v b c (breaks {e} {shut} n) rest = rest (spaced l) (broken n e shut) bs k refl (spaced_type l b) (calm_broken n e shut)
+type_step l m bs k x ps v b c (breaks {e} {shut} n) rest =
+    rest (spaced l) (broken n e shut) bs k refl (spaced_type l b) (calm_broken n e shut)
 type_step l m bs k x ps v b c (resumes d u) rest = rest l fresh bs k refl b calm_fresh
 type_step l m bs k x ps v b c ends_item rest = refl
 type_step l m bs k x ps v b c (shuts e) rest = refl
@@ -222,7 +237,8 @@ type_step l m bs k x ps v b c opens rest = elim c [ ]
 type_step l m bs k x ps v b c (indents u) rest = elim c [ ]
 type_step l m bs k x ps v b c empties rest = elim c [ ]
 
-type_unnumbered : (ps : List Printed) (l : Left) (m : Mode) (bs : List Block) (k : ℕ) (s u : State) → s ≡ at l m bs k → Behind_type l → Calm m → Runs s ps u → Unnumbered (sketched ps)
+type_unnumbered : (ps : List Printed) (l : Left) (m : Mode) (bs : List Block) (k : ℕ) (s u : State) → s ≡ at l m bs k → Behind_type l
+    → Calm m → Runs s ps u → Unnumbered (sketched ps)
 type_unnumbered [] l m bs k s u e b c r = tt
 type_unnumbered (x ∷ ps) l m bs k s u e b c (v, (t, r)) =
     type_step l m bs k x ps v b c (subst (λ (y : State). Step y x v) e t) (λ d n cs j f g h. type_unnumbered ps d n cs j v u f g h r)
@@ -236,7 +252,8 @@ placed_unnumbered (x ∷ ls) (w ∷ ws) e f =
 
 -- ---- joining
 
-join_case : (b : Bool) (x y : Lexeme) (ls : List Lexeme) → b ≡ false → cond b (record x { number = y.number; number_place = y.place } ∷ ls) (x ∷ y ∷ ls) ≡ x ∷ y ∷ ls
+join_case : (b : Bool) (x y : Lexeme) (ls : List Lexeme) → b ≡ false
+    → cond b (record x { number = y.number; number_place = y.place } ∷ ls) (x ∷ y ∷ ls) ≡ x ∷ y ∷ ls
 join_case true x y ls e = absurd cc
 join_case false x y ls e = refl
 
@@ -252,7 +269,8 @@ joined_type : (x : Lexeme) (ls : List Lexeme) → Unnumbered ls → joined x ls 
 joined_type x [] e = refl
 joined_type x (y ∷ ls) e = join_case (takes_number x y) x y ls (unnumbered_case (is_type x.class) (is_natural y.class) e)
 
-joined_number : (x y : Lexeme) (ls : List Lexeme) → takes_number x y ≡ true → joined x (y ∷ ls) ≡ record x { number = y.number; number_place = y.place } ∷ ls
+joined_number : (x y : Lexeme) (ls : List Lexeme) → takes_number x y ≡ true
+    → joined x (y ∷ ls) ≡ record x { number = y.number; number_place = y.place } ∷ ls
 joined_number x y ls e = ap (λ (b : Bool). cond b (record x { number = y.number; number_place = y.place } ∷ ls) (x ∷ y ∷ ls)) e
 
 -- ---- single words
@@ -288,7 +306,8 @@ named_no_type c big = refl
 named_no_type c small_path = refl
 named_no_type c big_path = refl
 
-name_apart : (b : Bool) (n : List ℕ) (s : Span) (t : List ℕ) → pointwise nat_eq n (codes "_") ≡ b → (unplaced (record (token_lexeme (cond b kind.Wildcard (kind.Name n)) s t) { found = t }) ≡ lexeme.word (cond b class.Wildcard (name_class n)) nowhere n) × (is_type (token_lexeme (cond b kind.Wildcard (kind.Name n)) s t).class ≡ false)
+name_apart : (b : Bool) (n : List ℕ) (s : Span) (t : List ℕ) → pointwise nat_eq n (codes "_") ≡ b
+    → (unplaced (record (token_lexeme (cond b kind.Wildcard (kind.Name n)) s t) { found = t }) ≡ lexeme.word (cond b class.Wildcard (name_class n)) nowhere n) × (is_type (token_lexeme (cond b kind.Wildcard (kind.Name n)) s t).class ≡ false)
 name_apart true n s t e = (ap (λ (m : List ℕ). lexeme.word class.Wildcard nowhere m) (sym (same_names n (codes "_") e)), refl)
 name_apart false n s t e = (refl, named_no_type (name_class n) (name_is n))
 
@@ -305,17 +324,24 @@ word_text : (w : Word) (b : Left) → Lexes w b → encode_utf8_all (chars (spel
 word_text w b x = encodes-chars (spelled w) x.utf8
 
 number_apart : (z : _) (q : Place) → Lexes (numeral z) wordy → Apart (lexeme_of (Tok (word_token q (numeral z)))) (numeral z)
-number_apart z q x = (ap (λ (v : List ℕ). unplaced (token_lexeme (kind.Number z) nowhere v)) (word_text (numeral z) wordy x), number_no_type (word_token q (numeral z)).text z)
+number_apart z q x = (
+  ap (λ (v : List ℕ). unplaced (token_lexeme (kind.Number z) nowhere v)) (word_text (numeral z) wordy x),
+  number_no_type (word_token q
+      (numeral z)).text z,
+)
 
-apart_lexemes : (t : Token) (w : Word) (ns : List Laid) (ps : List Printed) → Apart (lexeme_of (Tok t)) w → map unplaced (lexemes ns) ≡ sketched ps → map unplaced (lexemes (Tok t ∷ ns)) ≡ word_lexeme w ∷ sketched ps
+apart_lexemes : (t : Token) (w : Word) (ns : List Laid) (ps : List Printed) → Apart (lexeme_of (Tok t)) w
+    → map unplaced (lexemes ns) ≡ sketched ps → map unplaced (lexemes (Tok t ∷ ns)) ≡ word_lexeme w ∷ sketched ps
 apart_lexemes t w ns ps f e =
     ap (map unplaced) (joined_apart (lexeme_of (Tok t)) (lexemes ns) f.1)
     ∙ ap (λ (x : Lexeme). x ∷ map unplaced (lexemes ns)) f.0
     ∙ ap (λ (v : List Lexeme). word_lexeme w ∷ v) e
 
-type_lexemes : (q : Place) (ns : List Laid) (ps : List Printed) → Unnumbered (sketched ps) → map unplaced (lexemes ns) ≡ sketched ps → map unplaced (lexemes (Tok (word_token q bare_type) ∷ ns)) ≡ word_lexeme bare_type ∷ sketched ps
+type_lexemes : (q : Place) (ns : List Laid) (ps : List Printed) → Unnumbered (sketched ps) → map unplaced (lexemes ns) ≡ sketched ps
+    → map unplaced (lexemes (Tok (word_token q bare_type) ∷ ns)) ≡ word_lexeme bare_type ∷ sketched ps
 type_lexemes q ns ps u e =
-    ap (map unplaced) (joined_type (lexeme_of (Tok (word_token q bare_type))) (lexemes ns) (placed_unnumbered (lexemes ns) (sketched ps) e u))
+    ap (map unplaced)
+    (joined_type (lexeme_of (Tok (word_token q bare_type))) (lexemes ns) (placed_unnumbered (lexemes ns) (sketched ps) e u))
     ∙ ap (λ (v : List Lexeme). word_lexeme bare_type ∷ v) e
 
 natural_case : (a b : Bool) → is_natural (cond a class.Zero (cond b class.One class.Natural)) ≡ true
@@ -328,7 +354,8 @@ number_natural [] n = refl
 number_natural (b ∷ []) n = natural_case (b == 48) (b == 49)
 number_natural (b ∷ c ∷ bs) n = refl
 
-level_lexemes : (l : ℕ) (q : Place) (ns : List Laid) (ps : List Printed) → map unplaced (lexemes ns) ≡ sketched ps → map unplaced (lexemes (map Tok (word_tokens q (type_at l)) ++ ns)) ≡ word_lexeme (type_at l) ∷ sketched ps
+level_lexemes : (l : ℕ) (q : Place) (ns : List Laid) (ps : List Printed) → map unplaced (lexemes ns) ≡ sketched ps
+    → map unplaced (lexemes (map Tok (word_tokens q (type_at l)) ++ ns)) ≡ word_lexeme (type_at l) ∷ sketched ps
 level_lexemes l q ns ps e =
     let one = token kind.Type q (codes "Type") in
     let two = token (kind.Number (pos l)) (place_after q (codes "Type ")) (fmt.decimal l) in
@@ -338,10 +365,14 @@ level_lexemes l q ns ps e =
     ∙ ap (map unplaced) (joined_number x y (lexemes ns) (number_natural two.text l))
     ∙ ap (λ (v : List Lexeme). word_lexeme (type_at l) ∷ v) e
 
-word_lexemes : {w : Word} {b : Left} {r : Role} → IsWord w b r → (q : Place) (ns : List Laid) (ps : List Printed) → (b ≡ typed → Unnumbered (sketched ps)) → map unplaced (lexemes ns) ≡ sketched ps → map unplaced (lexemes (map Tok (word_tokens q w) ++ ns)) ≡ word_lexeme w ∷ sketched ps
+word_lexemes : {w : Word} {b : Left} {r : Role} → IsWord w b r → (q : Place) (ns : List Laid) (ps : List Printed)
+    → (b ≡ typed → Unnumbered (sketched ps)) → map unplaced (lexemes ns) ≡ sketched ps
+    → map unplaced (lexemes (map Tok (word_tokens q w) ++ ns)) ≡ word_lexeme w ∷ sketched ps
 word_lexemes (a_sign {s} i) q ns ps u e = apart_lexemes (word_token q (sign s)) (sign s) ns ps (sign_apart i q) e
-word_lexemes (a_name {n} f) q ns ps u e = apart_lexemes (word_token q (named n)) (named n) ns ps (name_apart (pointwise nat_eq n (codes "_")) n _ _ refl) e
-word_lexemes (a_numeral {z} f) q ns ps u e = apart_lexemes (word_token q (numeral z)) (numeral z) ns ps (number_apart z q (word_lexes (a_numeral f))) e
+word_lexemes (a_name {n} f) q ns ps u e =
+    apart_lexemes (word_token q (named n)) (named n) ns ps (name_apart (pointwise nat_eq n (codes "_")) n _ _ refl) e
+word_lexemes (a_numeral {z} f) q ns ps u e =
+    apart_lexemes (word_token q (numeral z)) (numeral z) ns ps (number_apart z q (word_lexes (a_numeral f))) e
 word_lexemes a_type q ns ps u e = type_lexemes q ns ps (u refl) e
 word_lexemes (a_level {l} f) q ns ps u e = level_lexemes l q ns ps e
 word_lexemes (a_text {v} f) q ns ps u e = apart_lexemes (word_token q (quoted v)) (quoted v) ns ps (refl, refl) e
@@ -349,23 +380,38 @@ word_lexemes (a_hole {n} f) q ns ps u e = apart_lexemes (word_token q (hole_name
 
 -- ---- all of them
 
-shown_lexemes : {w : Word} {b : Left} {r : Role} → IsWord w b r → (ps : List Printed) (ms : List Laid) → (b ≡ typed → Unnumbered (sketched ps)) → Shown ms (word w ∷ ps) → ((ns : List Laid) → Shown ns ps → map unplaced (lexemes ns) ≡ sketched ps) → map unplaced (lexemes ms) ≡ word_lexeme w ∷ sketched ps
+shown_lexemes : {w : Word} {b : Left} {r : Role} → IsWord w b r → (ps : List Printed) (ms : List Laid)
+    → (b ≡ typed → Unnumbered (sketched ps)) → Shown ms (word w ∷ ps)
+    → ((ns : List Laid) → Shown ns ps → map unplaced (lexemes ns) ≡ sketched ps) → map unplaced (lexemes ms) ≡ word_lexeme w ∷ sketched ps
 shown_lexemes i ps ms u (q, (ns, (e, h))) rest = ap (λ (v : List Laid). map unplaced (lexemes v)) e ∙ word_lexemes i q ns ps u (rest ns h)
 
-right_lexemes : (ps : List Printed) (ms : List Laid) → Shown ms (word (sign (codes ")")) ∷ ps) → ((ns : List Laid) → Shown ns ps → map unplaced (lexemes ns) ≡ sketched ps) → map unplaced (lexemes ms) ≡ word_lexeme (sign (codes ")")) ∷ sketched ps
-right_lexemes ps ms (q, (ns, (e, h))) rest = ap (λ (v : List Laid). map unplaced (lexemes v)) e ∙ apart_lexemes (word_token q (sign (codes ")"))) (sign (codes ")")) ns ps (refl, refl) (rest ns h)
+right_lexemes : (ps : List Printed) (ms : List Laid) → Shown ms (word (sign (codes ")")) ∷ ps)
+    → ((ns : List Laid) → Shown ns ps → map unplaced (lexemes ns) ≡ sketched ps)
+    → map unplaced (lexemes ms) ≡ word_lexeme (sign (codes ")")) ∷ sketched ps
+right_lexemes ps ms (q, (ns, (e, h))) rest =
+    ap (λ (v : List Laid). map unplaced (lexemes v)) e
+    ∙ apart_lexemes (word_token q (sign (codes ")"))) (sign (codes ")")) ns ps (refl, refl) (rest ns h)
 
-pub open_lexemes : (ps : List Printed) (ms : List Laid) → Shown ms (opened ∷ ps) → ((ns : List Laid) → Shown ns ps → map unplaced (lexemes ns) ≡ sketched ps) → map unplaced (lexemes ms) ≡ sketched (opened ∷ ps)
+pub open_lexemes : (ps : List Printed) (ms : List Laid) → Shown ms (opened ∷ ps)
+    → ((ns : List Laid) → Shown ns ps → map unplaced (lexemes ns) ≡ sketched ps) → map unplaced (lexemes ms) ≡ sketched (opened ∷ ps)
 open_lexemes ps ms (s, (ns, (e, h))) rest =
-    ap (λ (v : List Laid). map unplaced (lexemes v)) e ∙ ap (map unplaced) (joined_apart (lexeme_of (Open s)) (lexemes ns) refl) ∙ ap (λ (v : List Lexeme). lexeme.sign class.Open nowhere ∷ v) (rest ns h)
+    ap (λ (v : List Laid). map unplaced (lexemes v)) e
+    ∙ ap (map unplaced) (joined_apart (lexeme_of (Open s)) (lexemes ns) refl)
+    ∙ ap (λ (v : List Lexeme). lexeme.sign class.Open nowhere ∷ v) (rest ns h)
 
-next_lexemes : (ps : List Printed) (ms : List Laid) → Shown ms (next ∷ ps) → ((ns : List Laid) → Shown ns ps → map unplaced (lexemes ns) ≡ sketched ps) → map unplaced (lexemes ms) ≡ sketched (next ∷ ps)
+next_lexemes : (ps : List Printed) (ms : List Laid) → Shown ms (next ∷ ps)
+    → ((ns : List Laid) → Shown ns ps → map unplaced (lexemes ns) ≡ sketched ps) → map unplaced (lexemes ms) ≡ sketched (next ∷ ps)
 next_lexemes ps ms (s, (ns, (e, h))) rest =
-    ap (λ (v : List Laid). map unplaced (lexemes v)) e ∙ ap (map unplaced) (joined_apart (lexeme_of (Next s)) (lexemes ns) refl) ∙ ap (λ (v : List Lexeme). lexeme.sign class.Next nowhere ∷ v) (rest ns h)
+    ap (λ (v : List Laid). map unplaced (lexemes v)) e
+    ∙ ap (map unplaced) (joined_apart (lexeme_of (Next s)) (lexemes ns) refl)
+    ∙ ap (λ (v : List Lexeme). lexeme.sign class.Next nowhere ∷ v) (rest ns h)
 
-close_lexemes : (ps : List Printed) (ms : List Laid) → Shown ms (closed ∷ ps) → ((ns : List Laid) → Shown ns ps → map unplaced (lexemes ns) ≡ sketched ps) → map unplaced (lexemes ms) ≡ sketched (closed ∷ ps)
+close_lexemes : (ps : List Printed) (ms : List Laid) → Shown ms (closed ∷ ps)
+    → ((ns : List Laid) → Shown ns ps → map unplaced (lexemes ns) ≡ sketched ps) → map unplaced (lexemes ms) ≡ sketched (closed ∷ ps)
 close_lexemes ps ms (s, (ns, (e, h))) rest =
-    ap (λ (v : List Laid). map unplaced (lexemes v)) e ∙ ap (map unplaced) (joined_apart (lexeme_of (Close s)) (lexemes ns) refl) ∙ ap (λ (v : List Lexeme). lexeme.sign class.Close nowhere ∷ v) (rest ns h)
+    ap (λ (v : List Laid). map unplaced (lexemes v)) e
+    ∙ ap (map unplaced) (joined_apart (lexeme_of (Close s)) (lexemes ns) refl)
+    ∙ ap (λ (v : List Lexeme). lexeme.sign class.Close nowhere ∷ v) (rest ns h)
 
 opener_untyped : {w : Word} {b : Left} → IsWord w b role.Opener → b ≡ typed → ⊥
 opener_untyped (a_sign where_sign) e = absurd cc
@@ -375,9 +421,13 @@ left_untyped : {w : Word} {b : Left} → IsWord w b role.LeftBracket → b ≡ t
 left_untyped (a_sign left_sign) e = absurd cc
 left_untyped (a_sign dot_sign) e = absurd cc
 
-lexemes_step : (x : Printed) (ps : List Printed) (s u v : State) (ms : List Laid) → Step s x v → Runs v ps u → Shown ms (x ∷ ps) → ((ns : List Laid) → Shown ns ps → map unplaced (lexemes ns) ≡ sketched ps) → map unplaced (lexemes ms) ≡ sketched (x ∷ ps)
+lexemes_step : (x : Printed) (ps : List Printed) (s u v : State) (ms : List Laid) → Step s x v → Runs v ps u → Shown ms (x ∷ ps)
+    → ((ns : List Laid) → Shown ns ps → map unplaced (lexemes ns) ≡ sketched ps) → map unplaced (lexemes ms) ≡ sketched (x ∷ ps)
 lexemes_step x ps s u v ms (plain_word {l} {b} {m} {bs} {k} {w} r i f) t h rest =
-    shown_lexemes i ps ms (λ e. type_unnumbered ps typed (inline false []) bs k (at b (inline false []) bs k) u (ap (λ (y : Left). at y (inline false []) bs k) e) directly (calm_inline false []) t) h rest
+    shown_lexemes i ps ms
+    (λ e. type_unnumbered ps typed (inline false []) bs k (at b (inline false []) bs k) u (ap (λ (y : Left). at y
+    (inline false []) bs k) e) directly (calm_inline false []) t)
+    h rest
 lexemes_step x ps s u v ms (opener_word {w} r i f) t h rest = shown_lexemes i ps ms (λ e. absurd (opener_untyped i e)) h rest
 lexemes_step x ps s u v ms (left_bracket {w} r i f) t h rest = shown_lexemes i ps ms (λ e. absurd (left_untyped i e)) h rest
 lexemes_step x ps s u v ms (right_bracket o d w) t h rest = right_lexemes ps ms h rest
@@ -392,6 +442,7 @@ lexemes_step x ps s u v ms empties t h rest = close_lexemes ps ms h rest
 lexemes_step x ps s u v ms (shuts e) t h rest = close_lexemes ps ms h rest
 
 -- the marks and tokens of words that lead from state to state are, for the grammar, the words without their places
-pub lexemes_shown : (ps : List Printed) (s u : State) → Runs s ps u → (ms : List Laid) → Shown ms ps → map unplaced (lexemes ms) ≡ sketched ps
+pub lexemes_shown : (ps : List Printed) (s u : State) → Runs s ps u → (ms : List Laid) → Shown ms ps
+    → map unplaced (lexemes ms) ≡ sketched ps
 lexemes_shown [] s u e ms h = ap (λ (v : List Laid). map unplaced (lexemes v)) h
 lexemes_shown (x ∷ ps) s u (v, (t, r)) ms h = lexemes_step x ps s u v ms t r h (λ ns j. lexemes_shown ps v u r ns j)

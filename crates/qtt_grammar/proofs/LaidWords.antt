@@ -34,6 +34,7 @@ use Rattle.qtt_grammar.proofs.Steps.Mode.{inline, fresh, opener, opening, steppi
 use Rattle.qtt_grammar.proofs.Steps.Ready.{ready_inline, ready_fresh}
 use Rattle.qtt_grammar.proofs.Steps.State.{at}
 use Rattle.qtt_grammar.proofs.Steps.Step.{plain_word, opener_word, left_bracket, right_bracket, a_blank, breaks, resumes, ends_item, begins_item, opens, indents, empties, shuts}
+use Rattle.qtt_grammar.proofs.Written.{each_wider}
 use Rattle.qtt_grammar.proofs.WrittenItems.{Finished}
 use Rattle.qtt_grammar.proofs.WrittenItems.Finished.{finished}
 
@@ -83,7 +84,8 @@ emits_more ms pre q e f = subst (λ (v : List Laid). Emits v (pre ++ q ∷ [])) 
 
 -- ---- the newest blocks
 
-prefix_all : (p : Block → Bool) (xs : List Block) (y : Block) (ys : List Block) → Each (λ x. p x ≡ true) xs → p y ≡ false → prefix_len p (xs ++ y ∷ ys) ≡ length xs
+prefix_all : (p : Block → Bool) (xs : List Block) (y : Block) (ys : List Block) → Each (λ x. p x ≡ true) xs → p y ≡ false
+    → prefix_len p (xs ++ y ∷ ys) ≡ length xs
 prefix_all p [] y ys e f = ap (λ (b : Bool). cond b (1 + prefix_len p ys) 0) f
 prefix_all p (x ∷ xs) y ys e f =
     ap (λ (b : Bool). cond b (1 + prefix_len p (xs ++ y ∷ ys)) 0) e.0 ∙ ap (λ (n : ℕ). 1 + n) (prefix_all p xs y ys e.1 f) ∙ omega arith
@@ -94,9 +96,11 @@ each_append P (x ∷ xs) ys e f = (e.0, each_append P xs ys e.1 f)
 
 each_reverse : (P : Block → Type 0) (xs : List Block) → Each P xs → Each P (reverse xs)
 each_reverse P [] e = tt
-each_reverse P (x ∷ xs) e = subst (Each P) (sym (reverse-append (x ∷ []) xs)) (each_append P (reverse xs) (x ∷ []) (each_reverse P xs e.1) (e.0, tt))
+each_reverse P (x ∷ xs) e =
+    subst (Each P) (sym (reverse-append (x ∷ []) xs)) (each_append P (reverse xs) (x ∷ []) (each_reverse P xs e.1) (e.0, tt))
 
-suffix_exact : (p : Block → Bool) (bs shut others : List Block) (b : Block) → bs ≡ others ++ b ∷ [] → Each (λ x. p x ≡ true) shut → p b ≡ false → suffix_len p (bs ++ shut) ≡ length shut
+suffix_exact : (p : Block → Bool) (bs shut others : List Block) (b : Block) → bs ≡ others ++ b ∷ [] → Each (λ x. p x ≡ true) shut
+    → p b ≡ false → suffix_len p (bs ++ shut) ≡ length shut
 suffix_exact p bs shut others b e f g =
     ap (prefix_len p) (reverse-append bs shut ∙ ap (λ (v : List Block). reverse shut ++ v) (ap reverse e ∙ reverse-append others (b ∷ [])))
     ∙ prefix_all p (reverse shut) b (reverse others) (each_reverse (λ x. p x ≡ true) shut f) g
@@ -124,15 +128,9 @@ newest_last bs others b e =
 -- the newest of the blocks and those that closed behind them
 under_all : (P : Block → Type 0) (bs shut : List Block) → Under P bs → Each P shut → Under P (bs ++ shut)
 under_all P bs [] u e = subst (Under P) (sym (append-nil bs)) u
-under_all P bs (x ∷ shut) u e = subst (Under P) (append_assoc bs (x ∷ []) shut) (under_all P (bs ++ x ∷ []) shut (record { others = bs; newest = x; are = refl; is = e.0 }) e.1)
-
-each_true : (P : Block → Type 0) (p : Block → Bool) (xs : List Block) → ((x : Block) → P x → p x ≡ true) → Each P xs → Each (λ x. p x ≡ true) xs
-each_true P p [] f e = tt
-each_true P p (x ∷ xs) f e = (f x e.0, each_true P p xs f e.1)
-
-each_implies : (P Q : Block → Type 0) (xs : List Block) → ((x : Block) → P x → Q x) → Each P xs → Each Q xs
-each_implies P Q [] f e = tt
-each_implies P Q (x ∷ xs) f e = (f x e.0, each_implies P Q xs f e.1)
+under_all P bs (x ∷ shut) u e =
+    subst (Under P) (append_assoc bs (x ∷ []) shut)
+    (under_all P (bs ++ x ∷ []) shut (record { others = bs; newest = x; are = refl; is = e.0 }) e.1)
 
 not_less : (n m : ℕ) → m ≤ n → nat_lt n m ≡ false
 not_less n m h = grind (arith, nat_tests)
@@ -170,19 +168,27 @@ abbrev some_put : List Laid → List Block → Option Put
 some_put ms bs = Some (record { marks = ms; blocks = bs })
 
 -- on the line of the token before
-same_line : (ls : rules.State) (t : Token) (bs : List Block) → ls.blocks ≡ bs → ls.awaits ≡ false → t.span.line ≡ ls.line → by_column ls t ≡ some_put [] bs
+same_line : (ls : rules.State) (t : Token) (bs : List Block) → ls.blocks ≡ bs → ls.awaits ≡ false → t.span.line ≡ ls.line
+    → by_column ls t ≡ some_put [] bs
 same_line ls t bs b e f =
-    line_by (rules.opens ls t) (t.span.line == ls.line) _ (some_put (rules.empty_block ls t.span) ls.blocks) (aligned_at ls t.span) (ap (λ (a : Bool). a && is_deeper t.span.col (newest ls.blocks)) e) (same_true t.span.line ls.line f)
+    line_by (rules.opens ls t) (t.span.line == ls.line) _ (some_put (rules.empty_block ls t.span) ls.blocks) (aligned_at ls t.span)
+    (ap (λ (a : Bool). a && is_deeper t.span.col (newest ls.blocks)) e) (same_true t.span.line ls.line f)
     ∙ ap (λ (a : Bool). some_put (cond a (Open t.span ∷ Close t.span ∷ []) []) ls.blocks) e
     ∙ ap (some_put []) b
 
 abbrev aligned_by : Bool → List Block → ℕ → Span → Option Put
-aligned_by e blocks n span = aligned span (cond e (Open span ∷ Close span ∷ []) [] ++ closes n span) (without_newest n blocks) (newest (without_newest n blocks))
+aligned_by e blocks n span =
+    aligned span (cond e (Open span ∷ Close span ∷ []) [] ++ closes n span) (without_newest n blocks) (newest (without_newest n blocks))
 
 -- blocks that stand right of a token close, down to one that does not
-aligned_put : (ls : rules.State) (span : Span) (e : Bool) (bs shut : List Block) (u : Under (λ x. x.col ≤ span.col) bs) → ls.blocks ≡ bs ++ shut → ls.awaits ≡ e → Each (λ x. span.col < x.col) shut → aligned_at ls span ≡ some_put (due e (length shut) span ++ next_at u.newest span) bs
+aligned_put : (ls : rules.State) (span : Span) (e : Bool) (bs shut : List Block) (u : Under (λ x. x.col ≤ span.col) bs)
+    → ls.blocks ≡ bs ++ shut → ls.awaits ≡ e → Each (λ x. span.col < x.col) shut
+    → aligned_at ls span ≡ some_put (due e (length shut) span ++ next_at u.newest span) bs
 aligned_put ls span e bs shut u b a d =
-    let right : right_of span.col (bs ++ shut) ≡ length shut = suffix_exact (λ (x : Block). nat_lt span.col x.col) bs shut u.others u.newest u.are (each_true (λ x. span.col < x.col) (λ x. nat_lt span.col x.col) shut (λ x h. lt_true span.col x.col h) d) (not_less span.col u.newest.col u.is) in
+    let right : right_of span.col (bs ++ shut) ≡ length shut =
+    suffix_exact (λ (x : Block). nat_lt span.col x.col) bs shut u.others u.newest u.are
+    (each_wider {P = λ x. span.col < x.col} {Q = λ x. nat_lt span.col x.col ≡ true} shut (λ x h. lt_true span.col x.col h) d)
+    (not_less span.col u.newest.col u.is) in
     ap (λ (v : List Block). aligned_by ls.awaits v (right_of span.col v) span) b
     ∙ ap (λ (v : Bool). aligned_by v (bs ++ shut) (right_of span.col (bs ++ shut)) span) a
     ∙ ap (λ (n : ℕ). aligned_by e (bs ++ shut) n span) right
@@ -197,28 +203,47 @@ closed_block true a b f g = g
 closed_block false a b f g = refl
 
 -- at a line that begins an item of the newest block
-next_put : (ls : rules.State) (t : Token) (e : Bool) (bs shut : List Block) → Under (λ x. x.col ≡ t.span.col) bs → ls.blocks ≡ bs ++ shut → ls.awaits ≡ e → Each (λ x. t.span.col < x.col) shut → ls.line < t.span.line → by_column ls t ≡ some_put (due e (length shut) t.span ++ Next t.span ∷ []) bs
+next_put : (ls : rules.State) (t : Token) (e : Bool) (bs shut : List Block) → Under (λ x. x.col ≡ t.span.col) bs → ls.blocks ≡ bs ++ shut
+    → ls.awaits ≡ e → Each (λ x. t.span.col < x.col) shut → ls.line < t.span.line
+    → by_column ls t ≡ some_put (due e (length shut) t.span ++ Next t.span ∷ []) bs
 next_put ls t e bs shut u b a d h =
-    let upper : Under (λ x. x.col ≤ t.span.col) bs = record { others = u.others; newest = u.newest; are = u.are; is = omega (arith, u.is) } in
-    let lower : Under (λ x. t.span.col ≤ x.col) bs = record { others = u.others; newest = u.newest; are = u.are; is = omega (arith, u.is) } in
-    let not_deeper : is_deeper t.span.col (newest ls.blocks) ≡ false = ap (λ (v : List Block). is_deeper t.span.col (newest v)) b ∙ shallow t.span.col (bs ++ shut) (under_all (λ x. t.span.col ≤ x.col) bs shut lower (each_implies (λ x. t.span.col < x.col) (λ x. t.span.col ≤ x.col) shut (λ x k. omega (arith, k)) d)) in
-    column_by (rules.opens ls t) (t.span.line == ls.line) _ _ (aligned_at ls t.span) (closed_block ls.awaits e _ a not_deeper) (apart_false t.span.line ls.line (λ k. omega (arith, h, k)))
+    let upper : Under (λ x. x.col ≤ t.span.col) bs =
+    record { others = u.others; newest = u.newest; are = u.are; is = omega (arith, u.is) } in
+    let lower : Under (λ x. t.span.col ≤ x.col) bs =
+    record { others = u.others; newest = u.newest; are = u.are; is = omega (arith, u.is) } in
+    let not_deeper : is_deeper t.span.col (newest ls.blocks) ≡ false =
+    ap (λ (v : List Block). is_deeper t.span.col (newest v)) b
+    ∙ shallow t.span.col (bs ++ shut)
+    (under_all (λ x. t.span.col ≤ x.col) bs shut lower (each_wider {P = λ x. t.span.col < x.col} {Q = λ x. t.span.col ≤ x.col} shut (λ x k. omega
+    (arith, k)) d))
+    in
+    column_by (rules.opens ls t) (t.span.line == ls.line) _ _ (aligned_at ls t.span) (closed_block ls.awaits e _ a not_deeper)
+    (apart_false t.span.line ls.line (λ k. omega (arith, h, k)))
     ∙ aligned_put ls t.span e bs shut upper b a d
     ∙ ap (λ (v : Bool). some_put (due e (length shut) t.span ++ cond v (Next t.span ∷ []) []) bs) (same_true u.newest.col t.span.col u.is)
 
 -- at a line between the columns of the newest block and those that closed
-between_put : (ls : rules.State) (t : Token) (bs shut : List Block) → Under (λ x. x.col < t.span.col) bs → ls.blocks ≡ bs ++ shut → ls.awaits ≡ false → Each (λ x. t.span.col < x.col) shut → ls.line < t.span.line → by_column ls t ≡ some_put (due false (length shut) t.span) bs
+between_put : (ls : rules.State) (t : Token) (bs shut : List Block) → Under (λ x. x.col < t.span.col) bs → ls.blocks ≡ bs ++ shut
+    → ls.awaits ≡ false → Each (λ x. t.span.col < x.col) shut → ls.line < t.span.line
+    → by_column ls t ≡ some_put (due false (length shut) t.span) bs
 between_put ls t bs shut u b a d h =
-    let upper : Under (λ x. x.col ≤ t.span.col) bs = record { others = u.others; newest = u.newest; are = u.are; is = omega (arith, u.is) } in
-    column_by (rules.opens ls t) (t.span.line == ls.line) _ _ (aligned_at ls t.span) (ap (λ (v : Bool). v && is_deeper t.span.col (newest ls.blocks)) a) (apart_false t.span.line ls.line (λ k. omega (arith, h, k)))
+    let upper : Under (λ x. x.col ≤ t.span.col) bs =
+    record { others = u.others; newest = u.newest; are = u.are; is = omega (arith, u.is) } in
+    column_by (rules.opens ls t) (t.span.line == ls.line) _ _ (aligned_at ls t.span)
+    (ap (λ (v : Bool). v && is_deeper t.span.col (newest ls.blocks)) a) (apart_false t.span.line ls.line (λ k. omega (arith, h, k)))
     ∙ aligned_put ls t.span false bs shut upper b a d
-    ∙ ap (λ (v : Bool). some_put (due false (length shut) t.span ++ cond v (Next t.span ∷ []) []) bs) (apart_false u.newest.col t.span.col (λ k. omega (arith, u.is, k)))
+    ∙ ap (λ (v : Bool). some_put (due false (length shut) t.span ++ cond v (Next t.span ∷ []) []) bs)
+    (apart_false u.newest.col t.span.col (λ k. omega (arith, u.is, k)))
     ∙ ap (λ (v : List Laid). some_put v bs) (append-nil (due false (length shut) t.span))
 
 -- where a block is awaited and the token stands right of the newest one
-opening_put : (ls : rules.State) (t : Token) (bs : List Block) (k : ℕ) → Under (λ x. x.col < t.span.col) bs → ls.blocks ≡ bs → ls.awaits ≡ true → ls.brackets ≡ k → by_column ls t ≡ some_put (Open t.span ∷ []) (bs ++ block_at t.span.col k ∷ [])
+opening_put : (ls : rules.State) (t : Token) (bs : List Block) (k : ℕ) → Under (λ x. x.col < t.span.col) bs → ls.blocks ≡ bs
+    → ls.awaits ≡ true → ls.brackets ≡ k → by_column ls t ≡ some_put (Open t.span ∷ []) (bs ++ block_at t.span.col k ∷ [])
 opening_put ls t bs k u b a i =
-    let deeper : is_deeper t.span.col (newest ls.blocks) ≡ true = ap (λ (v : List Block). is_deeper t.span.col (newest v)) b ∙ ap (is_deeper t.span.col) (newest_last bs u.others u.newest u.are) ∙ lt_true u.newest.col t.span.col u.is in
+    let deeper : is_deeper t.span.col (newest ls.blocks) ≡ true =
+    ap (λ (v : List Block). is_deeper t.span.col (newest v)) b
+    ∙ ap (is_deeper t.span.col) (newest_last bs u.others u.newest u.are)
+    ∙ lt_true u.newest.col t.span.col u.is in
     open_by (rules.opens ls t) _ _ (ap (λ (v : Bool). v && is_deeper t.span.col (newest ls.blocks)) a ∙ deeper)
     ∙ ap (λ (v : List Block). some_put (Open t.span ∷ []) (v ++ block_at t.span.col ls.brackets ∷ [])) b
     ∙ ap (λ (n : ℕ). some_put (Open t.span ∷ []) (bs ++ block_at t.span.col n ∷ [])) i
@@ -244,10 +269,13 @@ Matches (at l (inline e shut) bs k) p ls pre = Waits (due e (length shut)) (bs +
 Matches (at l fresh bs k) p ls pre = Due bs k p ls pre
 Matches (at l opener bs k) p ls pre = Waits (λ s. []) bs k true ls pre × (ls.line ≡ p.line)
 Matches (at l opening bs k) p ls pre = Waits (λ s. Open s ∷ []) bs k true ls pre × (ls.line ≡ p.line)
-Matches (at l (stepping e shut) bs k) p ls pre = Waits (λ s. due e (length shut) s ++ Next s ∷ []) (bs ++ shut) k e ls pre × (ls.line ≡ p.line)
-Matches (at l (broken n e shut) bs k) p ls pre = Waits (due e (length shut)) (bs ++ shut) k e ls pre × ((ls.line < p.line) × (p.col ≡ n + 1))
+Matches (at l (stepping e shut) bs k) p ls pre =
+    Waits (λ s. due e (length shut) s ++ Next s ∷ []) (bs ++ shut) k e ls pre × (ls.line ≡ p.line)
+Matches (at l (broken n e shut) bs k) p ls pre =
+    Waits (due e (length shut)) (bs ++ shut) k e ls pre × ((ls.line < p.line) × (p.col ≡ n + 1))
 
-ready_due : (l : Left) (m : Mode) (bs : List Block) (k : ℕ) (p : Place) (ls : rules.State) (pre : List Printed) → Ready m → Matches (at l m bs k) p ls pre → Due bs k p ls pre
+ready_due : (l : Left) (m : Mode) (bs : List Block) (k : ℕ) (p : Place) (ls : rules.State) (pre : List Printed) → Ready m
+    → Matches (at l m bs k) p ls pre → Due bs k p ls pre
 ready_due l m bs k p ls pre ready_inline (w, e) = record {
   marks = λ s. [];
   brackets = w.brackets;
@@ -263,7 +291,8 @@ data Usual : Role → Type 0 where
   usual_opener : Usual role.Opener
   usual_left : Usual role.LeftBracket
 
-role_put : (r : Role) → Usual r → (ls : rules.State) (t : Token) (rest : rules.State → Result (List Laid) Mistake) → by_role r ls t rest ≡ by_put r ls t (by_column ls t) rest
+role_put : (r : Role) → Usual r → (ls : rules.State) (t : Token) (rest : rules.State → Result (List Laid) Mistake)
+    → by_role r ls t rest ≡ by_put r ls t (by_column ls t) rest
 role_put r usual_plain ls t rest = refl
 role_put r usual_opener ls t rest = refl
 role_put r usual_left ls t rest = refl
@@ -278,12 +307,14 @@ usual_blocks r usual_plain ls t bs = without_none bs
 usual_blocks r usual_opener ls t bs = without_none bs
 usual_blocks r usual_left ls t bs = without_none bs
 
-first_put : (r : Role) (ls : rules.State) (t : Token) (ts : List Token) → role_of t.kind ≡ r → put_from ls (t ∷ ts) ≡ by_role r ls t (λ n. put_from n ts)
+first_put : (r : Role) (ls : rules.State) (t : Token) (ts : List Token) → role_of t.kind ≡ r
+    → put_from ls (t ∷ ts) ≡ by_role r ls t (λ n. put_from n ts)
 unfolding put_from
 first_put r ls t ts e = ap (λ (x : Role). by_role x ls t (λ n. put_from n ts)) e
 
 module _ (bs : List Block) (k : ℕ) (p : Place) (ls : rules.State) (pre : List Printed) (d : Due bs k p ls pre) where
-  token_put : (r : Role) → Usual r → (t : Token) (ts : List Token) → role_of t.kind ≡ r → t.span.line ≡ p.line → t.span.col ≡ p.col → put_from ls (t ∷ ts) ≡ put_before (d.marks t.span ++ Tok t ∷ []) (put_from (behind r ls t bs) ts)
+  token_put : (r : Role) → Usual r → (t : Token) (ts : List Token) → role_of t.kind ≡ r → t.span.line ≡ p.line → t.span.col ≡ p.col
+      → put_from ls (t ∷ ts) ≡ put_before (d.marks t.span ++ Tok t ∷ []) (put_from (behind r ls t bs) ts)
   token_put r u t ts e f g =
       first_put r ls t ts e
       ∙ role_put r u ls t (λ n. put_from n ts)
@@ -301,7 +332,8 @@ module _ (bs : List Block) (k : ℕ) (p : Place) (ls : rules.State) (pre : List 
     awaits : last.awaits ≡ rules.is_opener r
     line : last.line ≡ p.line
 
-  single_laid : (w : Word) (r : Role) → Usual r → ((q : Place) → word_tokens q w ≡ word_token q w ∷ []) → role_of (word_kind w) ≡ r → Word_laid w r
+  single_laid : (w : Word) (r : Role) → Usual r → ((q : Place) → word_tokens q w ≡ word_token q w ∷ []) → role_of (word_kind w) ≡ r
+      → Word_laid w r
   single_laid w r u t e =
       let tok = word_token p w in
       record {
@@ -323,10 +355,17 @@ put_put xs ys (Ok zs) = ap Ok (sym (append_assoc xs ys zs))
 put_put xs ys (Err m) = refl
 
 -- behind a token on the same line
-behind_due : (bs : List Block) (k : ℕ) (p : Place) (ls : rules.State) → ls.blocks ≡ bs → ls.brackets ≡ k → ls.awaits ≡ false → ls.line ≡ p.line → Due bs k p ls []
-behind_due bs k p ls b i a e = record { marks = λ s. []; brackets = i; put = λ t f g. same_line ls t bs b a (f ∙ sym e); emits = λ s. emits_none }
+behind_due : (bs : List Block) (k : ℕ) (p : Place) (ls : rules.State) → ls.blocks ≡ bs → ls.brackets ≡ k → ls.awaits ≡ false
+    → ls.line ≡ p.line → Due bs k p ls []
+behind_due bs k p ls b i a e = record {
+  marks = λ s. [];
+  brackets = i;
+  put = λ t f g. same_line ls t bs b a (f ∙ sym e);
+  emits = λ s. emits_none;
+}
 
-level_laid : (bs : List Block) (k : ℕ) (p : Place) (ls : rules.State) (pre : List Printed) (d : Due bs k p ls pre) (l : ℕ) → Word_laid bs k p ls pre d (type_at l) role.Plain
+level_laid : (bs : List Block) (k : ℕ) (p : Place) (ls : rules.State) (pre : List Printed) (d : Due bs k p ls pre) (l : ℕ)
+    → Word_laid bs k p ls pre d (type_at l) role.Plain
 unfolding behind_due
 level_laid bs k p ls pre d l =
     let one = token kind.Type p (codes "Type") in
@@ -341,7 +380,8 @@ level_laid bs k p ls pre d l =
           token_put bs k p ls pre d role.Plain usual_plain one (two ∷ ts) refl refl refl
           ∙ ap (put_before (d.marks one.span ++ Tok one ∷ [])) (token_put bs k q mid [] e role.Plain usual_plain two ts refl refl refl)
           ∙ put_put (d.marks one.span ++ Tok one ∷ []) (Tok two ∷ []) (put_from (behind role.Plain mid two bs) ts)
-          ∙ ap (λ (v : List Laid). put_before v (put_from (behind role.Plain mid two bs) ts)) (append_assoc (d.marks one.span) (Tok one ∷ []) (Tok two ∷ []));
+          ∙ ap (λ (v : List Laid). put_before v (put_from (behind role.Plain mid two bs) ts))
+          (append_assoc (d.marks one.span) (Tok one ∷ []) (Tok two ∷ []));
       emits = d.emits one.span;
       blocks = without_none bs;
       brackets = d.brackets;
@@ -374,7 +414,8 @@ name_role : (b : Bool) (n : List ℕ) → role_of (cond b kind.Wildcard (kind.Na
 name_role true n = refl
 name_role false n = refl
 
-word_laid : (bs : List Block) (k : ℕ) (p : Place) (ls : rules.State) (pre : List Printed) (d : Due bs k p ls pre) {w : Word} {b : Left} {r : Role} → Usual r → IsWord w b r → Word_laid bs k p ls pre d w r
+word_laid : (bs : List Block) (k : ℕ) (p : Place) (ls : rules.State) (pre : List Printed) (d : Due bs k p ls pre) {w : Word} {b : Left}
+    {r : Role} → Usual r → IsWord w b r → Word_laid bs k p ls pre d w r
 word_laid bs k p ls pre d u (a_sign {s} {b} {r} i) = single_laid bs k p ls pre d (sign s) r u (λ q. refl) (sign_role i)
 word_laid bs k p ls pre d u (a_name {n} f) = single_laid bs k p ls pre d (named n) role.Plain u (λ q. refl) (name_role _ n)
 word_laid bs k p ls pre d u (a_numeral {z} f) = single_laid bs k p ls pre d (numeral z) role.Plain u (λ q. refl) refl
@@ -385,7 +426,8 @@ word_laid bs k p ls pre d u (a_hole {n} f) = single_laid bs k p ls pre d (hole_n
 
 -- ---- places
 
-line_case : (a b : Bool) (p : Place) (x y z : Place) → not a ≡ true → y.line ≡ p.line → z.line ≡ p.line → (cond a x (cond b y z)).line ≡ p.line
+line_case : (a b : Bool) (p : Place) (x y z : Place) → not a ≡ true → y.line ≡ p.line → z.line ≡ p.line
+    → (cond a x (cond b y z)).line ≡ p.line
 line_case true b p x y z e f g = absurd cc
 line_case false true p x y z e f g = f
 line_case false false p x y z e f g = g
@@ -429,7 +471,8 @@ module _ (f : Span → List Laid) (bs : List Block) (k : ℕ) (e : Bool) (ls : r
   waits_on : (q : Printed) → Emits [] (q ∷ []) → Waits f bs k e ls (pre ++ q ∷ [])
   waits_on q g = record { blocks = w.blocks; brackets = w.brackets; awaits = w.awaits; emits = λ s. emits_more (f s) pre q (w.emits s) g }
 
-  waits_more : (g h : Span → List Laid) (ds : List Block) (q : Printed) → bs ≡ ds → ((s : Span) → Emits (g s) (q ∷ [])) → ((s : Span) → f s ++ g s ≡ h s) → Waits h ds k e ls (pre ++ q ∷ [])
+  waits_more : (g h : Span → List Laid) (ds : List Block) (q : Printed) → bs ≡ ds → ((s : Span) → Emits (g s) (q ∷ []))
+      → ((s : Span) → f s ++ g s ≡ h s) → Waits h ds k e ls (pre ++ q ∷ [])
   waits_more g h ds q b i j = record {
     blocks = w.blocks ∙ b;
     brackets = w.brackets;
@@ -446,13 +489,26 @@ due_more true n s = ap (λ (v : List Laid). Open s ∷ Close s ∷ v) (closes_mo
 due_more false n s = closes_more n s
 
 -- a step that is no word's
-blank_match : (l : Left) (bs : List Block) (k : ℕ) (p : Place) (ls : rules.State) (pre : List Printed) → Matches (at l (inline false []) bs k) p ls pre → Matches (at (spaced l) (inline false []) bs k) (behind_written p blank) ls (pre ++ blank ∷ [])
+blank_match : (l : Left) (bs : List Block) (k : ℕ) (p : Place) (ls : rules.State) (pre : List Printed)
+    → Matches (at l (inline false []) bs k) p ls pre
+    → Matches (at (spaced l) (inline false []) bs k) (behind_written p blank) ls (pre ++ blank ∷ [])
 blank_match l bs k p ls pre (w, e) = (waits_on (due false 0) (bs ++ []) k false ls pre w blank emits_blank, e ∙ sym (blank_place_line p))
 
-break_match : (l : Left) (e : Bool) (shut bs : List Block) (k n : ℕ) (p : Place) (ls : rules.State) (pre : List Printed) → Matches (at l (inline e shut) bs k) p ls pre → Matches (at (spaced l) (broken n e shut) bs k) (behind_written p (line n)) ls (pre ++ line n ∷ [])
-break_match l e shut bs k n p ls pre (w, h) = (waits_on (due e (length shut)) (bs ++ shut) k e ls pre w (line n) (emits_line n), (omega (arith, h, line_place_line p n), line_place_col p n))
+break_match : (l : Left) (e : Bool) (shut bs : List Block) (k n : ℕ) (p : Place) (ls : rules.State) (pre : List Printed)
+    → Matches (at l (inline e shut) bs k) p ls pre
+    → Matches (at (spaced l) (broken n e shut) bs k) (behind_written p (line n)) ls (pre ++ line n ∷ [])
+break_match l e shut bs k n p ls pre (w, h) = (
+  waits_on (due e (length shut)) (bs ++ shut) k e ls pre w (line n) (emits_line n),
+  (
+    omega
+        (arith, h, line_place_line p n),
+    line_place_col p n,
+  ),
+)
 
-resume_match : (l : Left) (n : ℕ) (shut bs : List Block) (k : ℕ) (p : Place) (ls : rules.State) (pre : List Printed) → Each (λ x. n + 2 < x.col) shut → Under (λ x. x.col < n + 2) bs → Matches (at l (broken n false shut) bs k) p ls pre → Matches (at l fresh bs k) (behind_written p blank) ls (pre ++ blank ∷ [])
+resume_match : (l : Left) (n : ℕ) (shut bs : List Block) (k : ℕ) (p : Place) (ls : rules.State) (pre : List Printed)
+    → Each (λ x. n + 2 < x.col) shut → Under (λ x. x.col < n + 2) bs → Matches (at l (broken n false shut) bs k) p ls pre
+    → Matches (at l fresh bs k) (behind_written p blank) ls (pre ++ blank ∷ [])
 resume_match l n shut bs k p ls pre d u (w, (h, c)) =
     let more = waits_on (due false (length shut)) (bs ++ shut) k false ls pre w blank emits_blank in
     record {
@@ -460,14 +516,23 @@ resume_match l n shut bs k p ls pre d u (w, (h, c)) =
       brackets = w.brackets;
       put = λ t f g.
           let col : t.span.col ≡ n + 2 = omega (arith, g, blank_place_col p, c) in
-          between_put ls t bs shut (record { others = u.others; newest = u.newest; are = u.are; is = omega (arith, u.is, col) }) w.blocks w.awaits (each_implies (λ x. n + 2 < x.col) (λ x. t.span.col < x.col) shut (λ x y. omega (arith, y, col)) d) (omega (arith, h, f, blank_place_line p));
+          between_put ls t bs shut (record { others = u.others; newest = u.newest; are = u.are; is = omega (arith, u.is, col) }) w.blocks
+          w.awaits (each_wider {P = λ x. n + 2 < x.col} {Q = λ x. t.span.col < x.col} shut (λ x y. omega (arith, y, col)) d)
+          (omega (arith, h, f, blank_place_line p));
       emits = more.emits;
     }
 
-end_match : (l : Left) (e : Bool) (shut bs : List Block) (k : ℕ) (p : Place) (ls : rules.State) (pre : List Printed) → Matches (at l (inline e shut) bs k) p ls pre → Matches (at l (stepping e shut) bs k) (behind_written p next) ls (pre ++ next ∷ [])
-end_match l e shut bs k p ls pre (w, h) = (waits_more (due e (length shut)) (bs ++ shut) k e ls pre w (λ s. Next s ∷ []) (λ s. due e (length shut) s ++ Next s ∷ []) (bs ++ shut) next refl emits_next (λ s. refl), h ∙ sym (ap (λ (q : Place). q.line) (mark_place p)))
+end_match : (l : Left) (e : Bool) (shut bs : List Block) (k : ℕ) (p : Place) (ls : rules.State) (pre : List Printed)
+    → Matches (at l (inline e shut) bs k) p ls pre → Matches (at l (stepping e shut) bs k) (behind_written p next) ls (pre ++ next ∷ [])
+end_match l e shut bs k p ls pre (w, h) = (
+  waits_more (due e (length shut)) (bs ++ shut) k e ls pre w (λ s. Next s ∷ []) (λ s. due e (length shut) s ++ Next s ∷ [])
+      (bs ++ shut) next refl emits_next (λ s. refl),
+  h ∙ sym (ap (λ (q : Place). q.line) (mark_place p)),
+)
 
-begin_match : (l : Left) (e : Bool) (shut bs : List Block) (k n : ℕ) (p : Place) (ls : rules.State) (pre : List Printed) → Each (λ x. n + 1 < x.col) shut → Under (λ x. x.col ≡ n + 1) bs → Matches (at l (stepping e shut) bs k) p ls pre → Matches (at free fresh bs k) (behind_written p (line n)) ls (pre ++ line n ∷ [])
+begin_match : (l : Left) (e : Bool) (shut bs : List Block) (k n : ℕ) (p : Place) (ls : rules.State) (pre : List Printed)
+    → Each (λ x. n + 1 < x.col) shut → Under (λ x. x.col ≡ n + 1) bs → Matches (at l (stepping e shut) bs k) p ls pre
+    → Matches (at free fresh bs k) (behind_written p (line n)) ls (pre ++ line n ∷ [])
 begin_match l e shut bs k n p ls pre d u (w, h) =
     let f : Span → List Laid = λ s. due e (length shut) s ++ Next s ∷ [] in
     let more = waits_on f (bs ++ shut) k e ls pre w (line n) (emits_line n) in
@@ -476,14 +541,23 @@ begin_match l e shut bs k n p ls pre d u (w, h) =
       brackets = w.brackets;
       put = λ t i g.
           let col : t.span.col ≡ n + 1 = g ∙ line_place_col p n in
-          next_put ls t e bs shut (record { others = u.others; newest = u.newest; are = u.are; is = u.is ∙ sym col }) w.blocks w.awaits (each_implies (λ x. n + 1 < x.col) (λ x. t.span.col < x.col) shut (λ x y. omega (arith, y, col)) d) (omega (arith, h, i, line_place_line p n));
+          next_put ls t e bs shut (record { others = u.others; newest = u.newest; are = u.are; is = u.is ∙ sym col }) w.blocks w.awaits
+          (each_wider {P = λ x. n + 1 < x.col} {Q = λ x. t.span.col < x.col} shut (λ x y. omega (arith, y, col)) d)
+          (omega (arith, h, i, line_place_line p n));
       emits = more.emits;
     }
 
-open_match : (l : Left) (bs : List Block) (k : ℕ) (p : Place) (ls : rules.State) (pre : List Printed) → Matches (at l opener bs k) p ls pre → Matches (at l opening bs k) (behind_written p opened) ls (pre ++ opened ∷ [])
-open_match l bs k p ls pre (w, h) = (waits_more (λ s. []) bs k true ls pre w (λ s. Open s ∷ []) (λ s. Open s ∷ []) bs opened refl emits_opened (λ s. refl), h ∙ sym (ap (λ (q : Place). q.line) (mark_place p)))
+open_match : (l : Left) (bs : List Block) (k : ℕ) (p : Place) (ls : rules.State) (pre : List Printed) → Matches (at l opener bs k) p ls pre
+    → Matches (at l opening bs k) (behind_written p opened) ls (pre ++ opened ∷ [])
+open_match l bs k p ls pre (w, h) = (
+  waits_more (λ s. []) bs k true ls pre w (λ s. Open s ∷ []) (λ s. Open s ∷ []) bs opened refl emits_opened (λ s. refl),
+  h ∙ sym (ap
+      (λ (q : Place). q.line) (mark_place p)),
+)
 
-indent_match : (l : Left) (bs : List Block) (k n : ℕ) (p : Place) (ls : rules.State) (pre : List Printed) → Under (λ x. x.col < n + 1) bs → Matches (at l opening bs k) p ls pre → Matches (at free fresh (bs ++ block_at (n + 1) k ∷ []) k) (behind_written p (line n)) ls (pre ++ line n ∷ [])
+indent_match : (l : Left) (bs : List Block) (k n : ℕ) (p : Place) (ls : rules.State) (pre : List Printed) → Under (λ x. x.col < n + 1) bs
+    → Matches (at l opening bs k) p ls pre
+    → Matches (at free fresh (bs ++ block_at (n + 1) k ∷ []) k) (behind_written p (line n)) ls (pre ++ line n ∷ [])
 indent_match l bs k n p ls pre u (w, h) =
     let f : Span → List Laid = λ s. Open s ∷ [] in
     let more = waits_on f bs k true ls pre w (line n) (emits_line n) in
@@ -492,17 +566,29 @@ indent_match l bs k n p ls pre u (w, h) =
       brackets = w.brackets;
       put = λ t i g.
           let col : t.span.col ≡ n + 1 = g ∙ line_place_col p n in
-          opening_put ls t bs k (record { others = u.others; newest = u.newest; are = u.are; is = omega (arith, u.is, col) }) w.blocks w.awaits w.brackets
+          opening_put ls t bs k (record { others = u.others; newest = u.newest; are = u.are; is = omega (arith, u.is, col) }) w.blocks
+          w.awaits w.brackets
           ∙ ap (λ (c : ℕ). some_put (Open t.span ∷ []) (bs ++ block_at c k ∷ [])) col;
       emits = more.emits;
     }
 
-empty_match : (l : Left) (bs : List Block) (k : ℕ) (p : Place) (ls : rules.State) (pre : List Printed) → Matches (at l opening bs k) p ls pre → Matches (at l (inline true []) bs k) (behind_written p closed) ls (pre ++ closed ∷ [])
-empty_match l bs k p ls pre (w, h) = (waits_more (λ s. Open s ∷ []) bs k true ls pre w (λ s. Close s ∷ []) (due true 0) (bs ++ []) closed (sym (append-nil bs)) emits_closed (λ s. refl), h ∙ sym (ap (λ (q : Place). q.line) (mark_place p)))
+empty_match : (l : Left) (bs : List Block) (k : ℕ) (p : Place) (ls : rules.State) (pre : List Printed)
+    → Matches (at l opening bs k) p ls pre → Matches (at l (inline true []) bs k) (behind_written p closed) ls (pre ++ closed ∷ [])
+empty_match l bs k p ls pre (w, h) = (
+  waits_more (λ s. Open s ∷ []) bs k true ls pre w (λ s. Close s ∷ []) (due true 0) (bs ++ []) closed (sym (append-nil bs)) emits_closed
+      (λ s. refl),
+  h ∙ sym (ap (λ (q : Place). q.line) (mark_place p)),
+)
 
-shut_match : (l : Left) (e : Bool) (shut bs others : List Block) (x : Block) (k : ℕ) (p : Place) (ls : rules.State) (pre : List Printed) → bs ≡ others ++ x ∷ [] → Matches (at l (inline e shut) bs k) p ls pre → Matches (at l (inline e (x ∷ shut)) others k) (behind_written p closed) ls (pre ++ closed ∷ [])
-shut_match l e shut bs others x k p ls pre b (w, h) =
-    (waits_more (due e (length shut)) (bs ++ shut) k e ls pre w (λ s. Close s ∷ []) (due e (length (x ∷ shut))) (others ++ x ∷ shut) closed (ap (λ (v : List Block). v ++ shut) b ∙ append_assoc others (x ∷ []) shut) emits_closed (λ s. due_more e (length shut) s), h ∙ sym (ap (λ (q : Place). q.line) (mark_place p)))
+shut_match : (l : Left) (e : Bool) (shut bs others : List Block) (x : Block) (k : ℕ) (p : Place) (ls : rules.State) (pre : List Printed)
+    → bs ≡ others ++ x ∷ [] → Matches (at l (inline e shut) bs k) p ls pre
+    → Matches (at l (inline e (x ∷ shut)) others k) (behind_written p closed) ls (pre ++ closed ∷ [])
+shut_match l e shut bs others x k p ls pre b (w, h) = (
+  waits_more (due e (length shut)) (bs ++ shut) k e ls pre w (λ s. Close s ∷ []) (due e (length (x ∷ shut))) (others ++ x ∷ shut) closed
+      (ap (λ (v : List Block). v ++ shut) b ∙ append_assoc others (x ∷ []) shut) emits_closed (λ s. due_more e (length shut) s),
+  h ∙ sym (ap
+      (λ (q : Place). q.line) (mark_place p)),
+)
 
 -- ---- the whole text
 
@@ -512,47 +598,63 @@ pub record Laid_as (ls : rules.State) (ts : List Token) (ps : List Printed) : Ty
   pub shown : Shown marks ps
 
 -- the tokens of a word, and those that follow
-word_first : (w : Word) (p : Place) (ls last : rules.State) (pre ps : List Printed) (ms : List Laid) (ts : List Token) → put_from ls (word_tokens p w ++ ts) ≡ put_before (ms ++ map Tok (word_tokens p w)) (put_from last ts) → Emits ms pre → Laid_as last ts ps → Laid_as ls (word_tokens p w ++ ts) (pre ++ word w ∷ ps)
+word_first : (w : Word) (p : Place) (ls last : rules.State) (pre ps : List Printed) (ms : List Laid) (ts : List Token)
+    → put_from ls (word_tokens p w ++ ts) ≡ put_before (ms ++ map Tok (word_tokens p w)) (put_from last ts) → Emits ms pre
+    → Laid_as last ts ps → Laid_as ls (word_tokens p w ++ ts) (pre ++ word w ∷ ps)
 word_first w p ls last pre ps ms ts e f y = record {
   marks = (ms ++ map Tok (word_tokens p w)) ++ y.marks;
   put = e ∙ ap (put_before (ms ++ map Tok (word_tokens p w))) y.put;
-  shown = subst (λ (v : List Laid). Shown v (pre ++ word w ∷ ps)) (sym (append_assoc ms (map Tok (word_tokens p w)) y.marks)) (f.shown (map Tok (word_tokens p w) ++ y.marks) (word w ∷ ps) (p, (y.marks, (refl, y.shown))));
+  shown =
+      subst (λ (v : List Laid). Shown v (pre ++ word w ∷ ps)) (sym (append_assoc ms (map Tok (word_tokens p w)) y.marks))
+      (f.shown (map Tok (word_tokens p w) ++ y.marks) (word w ∷ ps) (p, (y.marks, (refl, y.shown))));
 }
 
-tokens_split : (ls : rules.State) (us vs ts : List Token) (ps : List Printed) → Laid_as ls (us ++ (vs ++ ts)) ps → Laid_as ls ((us ++ vs) ++ ts) ps
+tokens_split : (ls : rules.State) (us vs ts : List Token) (ps : List Printed) → Laid_as ls (us ++ (vs ++ ts)) ps
+    → Laid_as ls ((us ++ vs) ++ ts) ps
 tokens_split ls us vs ts ps y = subst (λ (v : List Token). Laid_as ls v ps) (sym (append_assoc us vs ts)) y
 
-mark_split : (ls : rules.State) (ts : List Token) (pre ps : List Printed) (q : Printed) → Laid_as ls ts ((pre ++ q ∷ []) ++ ps) → Laid_as ls ts (pre ++ q ∷ ps)
+mark_split : (ls : rules.State) (ts : List Token) (pre ps : List Printed) (q : Printed) → Laid_as ls ts ((pre ++ q ∷ []) ++ ps)
+    → Laid_as ls ts (pre ++ q ∷ ps)
 mark_split ls ts pre ps q y = subst (Laid_as ls ts) (append_assoc pre (q ∷ []) ps) y
 
 -- `)` closes the blocks behind it
-right_token : Place → Token
-right_token p = word_token p (sign (codes ")"))
-
-since_exact : (k : ℕ) (bs shut : List Block) → Each (λ x. suc k ≤ x.brackets) shut → Under (λ x. x.brackets ≤ k) bs → since_bracket (suc k) (bs ++ shut) ≡ length shut
+since_exact : (k : ℕ) (bs shut : List Block) → Each (λ x. suc k ≤ x.brackets) shut → Under (λ x. x.brackets ≤ k) bs
+    → since_bracket (suc k) (bs ++ shut) ≡ length shut
 since_exact k bs shut d u =
-    suffix_exact (λ (x : Block). nat_le (suc k) x.brackets) bs shut u.others u.newest u.are (each_true (λ x. suc k ≤ x.brackets) (λ x. nat_le (suc k) x.brackets) shut (λ x h. le_true (suc k) x.brackets h) d) (not_most (suc k) u.newest.brackets (omega (arith, u.is)))
+    suffix_exact (λ (x : Block). nat_le (suc k) x.brackets) bs shut u.others u.newest u.are
+    (each_wider {P = λ x. suc k ≤ x.brackets} {Q = λ x. nat_le (suc k) x.brackets ≡ true} shut (λ x h. le_true (suc k) x.brackets h) d)
+    (not_most (suc k) u.newest.brackets (omega (arith, u.is)))
 
-right_put : (bs shut : List Block) (k : ℕ) (p : Place) (ls : rules.State) (pre : List Printed) (ts : List Token) → Each (λ x. suc k ≤ x.brackets) shut → Under (λ x. x.brackets ≤ k) bs → (w : Waits (due false (length shut)) (bs ++ shut) (suc k) false ls pre) → ls.line ≡ p.line → put_from ls (word_tokens p (sign (codes ")")) ++ ts) ≡ put_before (due false (length shut) (word_token p (sign (codes ")"))).span ++ Tok (word_token p (sign (codes ")"))) ∷ []) (put_from (behind role.RightBracket ls (word_token p (sign (codes ")"))) (bs ++ shut)) ts)
+right_put : (bs shut : List Block) (k : ℕ) (p : Place) (ls : rules.State) (pre : List Printed) (ts : List Token)
+    → Each (λ x. suc k ≤ x.brackets) shut → Under (λ x. x.brackets ≤ k) bs
+    → (w : Waits (due false (length shut)) (bs ++ shut) (suc k) false ls pre) → ls.line ≡ p.line
+    → put_from ls (word_tokens p (sign (codes ")")) ++ ts) ≡ put_before (due false (length shut) (word_token p (sign (codes ")"))).span ++ Tok (word_token p (sign (codes ")"))) ∷ []) (put_from (behind role.RightBracket ls (word_token p (sign (codes ")"))) (bs ++ shut)) ts)
 right_put bs shut k p ls pre ts d u w h =
     let t = word_token p (sign (codes ")")) in
     let all = bs ++ shut in
     first_put role.RightBracket ls t ts refl
     ∙ ap (λ (o : Option Put). by_put role.RightBracket ls t o (λ n. put_from n ts)) (same_line ls t all w.blocks w.awaits (sym h))
-    ∙ ap (λ (n : ℕ). put_before (closes n t.span ++ Tok t ∷ []) (put_from (behind role.RightBracket ls t all) ts)) (ap (λ (n : ℕ). since_bracket n all) w.brackets ∙ since_exact k bs shut d u)
+    ∙ ap (λ (n : ℕ). put_before (closes n t.span ++ Tok t ∷ []) (put_from (behind role.RightBracket ls t all) ts))
+    (ap (λ (n : ℕ). since_bracket n all) w.brackets ∙ since_exact k bs shut d u)
 
-right_match : (bs shut : List Block) (k : ℕ) (p : Place) (ls : rules.State) (pre : List Printed) → Each (λ x. suc k ≤ x.brackets) shut → Under (λ x. x.brackets ≤ k) bs → Waits (due false (length shut)) (bs ++ shut) (suc k) false ls pre → Waits (due false 0) (bs ++ []) k false (behind role.RightBracket ls (word_token p (sign (codes ")"))) (bs ++ shut)) []
+right_match : (bs shut : List Block) (k : ℕ) (p : Place) (ls : rules.State) (pre : List Printed) → Each (λ x. suc k ≤ x.brackets) shut
+    → Under (λ x. x.brackets ≤ k) bs → Waits (due false (length shut)) (bs ++ shut) (suc k) false ls pre
+    → Waits (due false 0) (bs ++ []) k false (behind role.RightBracket ls (word_token p (sign (codes ")"))) (bs ++ shut)) []
 right_match bs shut k p ls pre d u w =
     let all = bs ++ shut in
     record {
-      blocks = ap (λ (n : ℕ). without_newest n all) (ap (λ (n : ℕ). since_bracket n all) w.brackets ∙ since_exact k bs shut d u) ∙ without_exact bs shut ∙ sym (append-nil bs);
+      blocks =
+          ap (λ (n : ℕ). without_newest n all) (ap (λ (n : ℕ). since_bracket n all) w.brackets ∙ since_exact k bs shut d u)
+          ∙ without_exact bs shut
+          ∙ sym (append-nil bs);
       brackets = omega (arith, w.brackets);
       awaits = refl;
       emits = λ s. emits_none;
     }
 
 -- behind the last line feed
-end_laid : (e : Bool) (shut : List Block) (ls : rules.State) (pre : List Printed) (q : Place) → Waits (due e (length shut)) ([] ++ shut) 0 e ls pre → Laid_as ls (token kind.End q [] ∷ []) (pre ++ [])
+end_laid : (e : Bool) (shut : List Block) (ls : rules.State) (pre : List Printed) (q : Place)
+    → Waits (due e (length shut)) ([] ++ shut) 0 e ls pre → Laid_as ls (token kind.End q [] ∷ []) (pre ++ [])
 end_laid e shut ls pre q w =
     let t = token kind.End q [] in
     record {
@@ -565,41 +667,81 @@ end_laid e shut ls pre q w =
       shown = (w.emits t.span).shown [] [] refl;
     }
 
-finish : (u : State) (p : Place) (ls : rules.State) (pre : List Printed) (q : Place) → Finished u → Matches u p ls pre → Laid_as ls (token kind.End q [] ∷ []) (pre ++ [])
+finish : (u : State) (p : Place) (ls : rules.State) (pre : List Printed) (q : Place) → Finished u → Matches u p ls pre
+    → Laid_as ls (token kind.End q [] ∷ []) (pre ++ [])
 finish u p ls pre q (finished l e shut) (w, h) = end_laid e shut ls pre q w
 
-lay_step : (x : Printed) (ps : List Printed) (s v : State) (q : Place) → Step s x v → ((p : Place) (ls : rules.State) (pre : List Printed) → Matches v p ls pre → Laid_as ls (printed_tokens p ps ++ token kind.End q [] ∷ []) (pre ++ ps)) → (p : Place) (ls : rules.State) (pre : List Printed) → Matches s p ls pre → Laid_as ls (printed_tokens p (x ∷ ps) ++ token kind.End q [] ∷ []) (pre ++ x ∷ ps)
+lay_step : (x : Printed) (ps : List Printed) (s v : State) (q : Place) → Step s x v
+    → ((p : Place) (ls : rules.State) (pre : List Printed) → Matches v p ls pre → Laid_as ls (printed_tokens p ps ++ token kind.End q [] ∷ []) (pre ++ ps))
+    → (p : Place) (ls : rules.State) (pre : List Printed) → Matches s p ls pre
+    → Laid_as ls (printed_tokens p (x ∷ ps) ++ token kind.End q [] ∷ []) (pre ++ x ∷ ps)
 lay_step x ps s v q (plain_word {l} {b} {m} {bs} {k} {w} rd i f) rest p ls pre t =
     let d = ready_due l m bs k p ls pre rd t in
     let y = word_laid bs k p ls pre d usual_plain i in
-    let z = rest (behind_written p (word w)) y.last [] (record { blocks = y.blocks ∙ sym (append-nil bs); brackets = y.brackets; awaits = y.awaits; emits = λ s. emits_none }, y.line ∙ sym (word_line p (word_lexes i))) in
+    let z =
+    rest (behind_written p (word w)) y.last [] (
+      record { blocks = y.blocks ∙ sym (append-nil bs); brackets = y.brackets; awaits = y.awaits; emits = λ s. emits_none },
+      y.line ∙ sym
+          (word_line p (word_lexes i)),
+    )
+    in
     tokens_split ls (word_tokens p w) _ _ (pre ++ word w ∷ ps) (word_first w p ls y.last pre ps y.marks _ (y.put _) y.emits z)
 lay_step x ps s v q (opener_word {l} {b} {m} {bs} {k} {w} rd i f) rest p ls pre t =
     let d = ready_due l m bs k p ls pre rd t in
     let y = word_laid bs k p ls pre d usual_opener i in
-    let z = rest (behind_written p (word w)) y.last [] (record { blocks = y.blocks; brackets = y.brackets; awaits = y.awaits; emits = λ s. emits_none }, y.line ∙ sym (word_line p (word_lexes i))) in
+    let z =
+    rest (behind_written p (word w)) y.last [] (
+      record { blocks = y.blocks; brackets = y.brackets; awaits = y.awaits; emits = λ s. emits_none },
+      y.line ∙ sym (word_line p
+          (word_lexes i)),
+    )
+    in
     tokens_split ls (word_tokens p w) _ _ (pre ++ word w ∷ ps) (word_first w p ls y.last pre ps y.marks _ (y.put _) y.emits z)
 lay_step x ps s v q (left_bracket {l} {b} {m} {bs} {k} {w} rd i f) rest p ls pre t =
     let d = ready_due l m bs k p ls pre rd t in
     let y = word_laid bs k p ls pre d usual_left i in
-    let z = rest (behind_written p (word w)) y.last [] (record { blocks = y.blocks ∙ sym (append-nil bs); brackets = y.brackets ∙ add-one k; awaits = y.awaits; emits = λ s. emits_none }, y.line ∙ sym (word_line p (word_lexes i))) in
+    let z =
+    rest (behind_written p (word w)) y.last [] (
+      record {
+        blocks = y.blocks ∙ sym
+            (append-nil bs);
+        brackets = y.brackets ∙ add-one k;
+        awaits = y.awaits;
+        emits = λ s. emits_none;
+      },
+      y.line ∙ sym (word_line p
+          (word_lexes i)),
+    )
+    in
     tokens_split ls (word_tokens p w) _ _ (pre ++ word w ∷ ps) (word_first w p ls y.last pre ps y.marks _ (y.put _) y.emits z)
 lay_step x ps s v q (right_bracket {l} {shut} {bs} {k} o d u) rest p ls pre (w, h) =
     let tok = word_token p (sign (codes ")")) in
     let last = behind role.RightBracket ls tok (bs ++ shut) in
-    let z = rest (behind_written p (word (sign (codes ")")))) last [] (right_match bs shut k p ls pre d u w, sym (word_line p right_lexes)) in
-    word_first (sign (codes ")")) p ls last pre ps (due false (length shut) tok.span) _ (right_put bs shut k p ls pre _ d u w h) (w.emits tok.span) z
-lay_step x ps s v q (a_blank {l} {bs} {k}) rest p ls pre t = mark_split ls _ pre ps blank (rest (behind_written p blank) ls (pre ++ blank ∷ []) (blank_match l bs k p ls pre t))
-lay_step x ps s v q (breaks {l} {e} {shut} {bs} {k} n) rest p ls pre t = mark_split ls _ pre ps (line n) (rest (behind_written p (line n)) ls (pre ++ line n ∷ []) (break_match l e shut bs k n p ls pre t))
-lay_step x ps s v q (resumes {l} {n} {shut} {bs} {k} d u) rest p ls pre t = mark_split ls _ pre ps blank (rest (behind_written p blank) ls (pre ++ blank ∷ []) (resume_match l n shut bs k p ls pre d u t))
-lay_step x ps s v q (ends_item {l} {e} {shut} {bs} {k}) rest p ls pre t = mark_split ls _ pre ps next (rest (behind_written p next) ls (pre ++ next ∷ []) (end_match l e shut bs k p ls pre t))
-lay_step x ps s v q (begins_item {l} {e} {shut} {bs} {k} {n} d u) rest p ls pre t = mark_split ls _ pre ps (line n) (rest (behind_written p (line n)) ls (pre ++ line n ∷ []) (begin_match l e shut bs k n p ls pre d u t))
-lay_step x ps s v q (opens {l} {bs} {k}) rest p ls pre t = mark_split ls _ pre ps opened (rest (behind_written p opened) ls (pre ++ opened ∷ []) (open_match l bs k p ls pre t))
-lay_step x ps s v q (indents {l} {bs} {k} {n} u) rest p ls pre t = mark_split ls _ pre ps (line n) (rest (behind_written p (line n)) ls (pre ++ line n ∷ []) (indent_match l bs k n p ls pre u t))
-lay_step x ps s v q (empties {l} {bs} {k}) rest p ls pre t = mark_split ls _ pre ps closed (rest (behind_written p closed) ls (pre ++ closed ∷ []) (empty_match l bs k p ls pre t))
-lay_step x ps s v q (shuts {l} {e} {shut} {bs} {others} {x = y} {k} b) rest p ls pre t = mark_split ls _ pre ps closed (rest (behind_written p closed) ls (pre ++ closed ∷ []) (shut_match l e shut bs others y k p ls pre b t))
+    let z =
+    rest (behind_written p (word (sign (codes ")")))) last [] (right_match bs shut k p ls pre d u w, sym (word_line p right_lexes)) in
+    word_first (sign (codes ")")) p ls last pre ps (due false (length shut) tok.span) _ (right_put bs shut k p ls pre _ d u w h)
+    (w.emits tok.span) z
+lay_step x ps s v q (a_blank {l} {bs} {k}) rest p ls pre t =
+    mark_split ls _ pre ps blank (rest (behind_written p blank) ls (pre ++ blank ∷ []) (blank_match l bs k p ls pre t))
+lay_step x ps s v q (breaks {l} {e} {shut} {bs} {k} n) rest p ls pre t =
+    mark_split ls _ pre ps (line n) (rest (behind_written p (line n)) ls (pre ++ line n ∷ []) (break_match l e shut bs k n p ls pre t))
+lay_step x ps s v q (resumes {l} {n} {shut} {bs} {k} d u) rest p ls pre t =
+    mark_split ls _ pre ps blank (rest (behind_written p blank) ls (pre ++ blank ∷ []) (resume_match l n shut bs k p ls pre d u t))
+lay_step x ps s v q (ends_item {l} {e} {shut} {bs} {k}) rest p ls pre t =
+    mark_split ls _ pre ps next (rest (behind_written p next) ls (pre ++ next ∷ []) (end_match l e shut bs k p ls pre t))
+lay_step x ps s v q (begins_item {l} {e} {shut} {bs} {k} {n} d u) rest p ls pre t =
+    mark_split ls _ pre ps (line n) (rest (behind_written p (line n)) ls (pre ++ line n ∷ []) (begin_match l e shut bs k n p ls pre d u t))
+lay_step x ps s v q (opens {l} {bs} {k}) rest p ls pre t =
+    mark_split ls _ pre ps opened (rest (behind_written p opened) ls (pre ++ opened ∷ []) (open_match l bs k p ls pre t))
+lay_step x ps s v q (indents {l} {bs} {k} {n} u) rest p ls pre t =
+    mark_split ls _ pre ps (line n) (rest (behind_written p (line n)) ls (pre ++ line n ∷ []) (indent_match l bs k n p ls pre u t))
+lay_step x ps s v q (empties {l} {bs} {k}) rest p ls pre t =
+    mark_split ls _ pre ps closed (rest (behind_written p closed) ls (pre ++ closed ∷ []) (empty_match l bs k p ls pre t))
+lay_step x ps s v q (shuts {l} {e} {shut} {bs} {others} {x = y} {k} b) rest p ls pre t =
+    mark_split ls _ pre ps closed (rest (behind_written p closed) ls (pre ++ closed ∷ []) (shut_match l e shut bs others y k p ls pre b t))
 
-lay : (ps : List Printed) (s u : State) → Runs s ps u → Finished u → (q p : Place) (ls : rules.State) (pre : List Printed) → Matches s p ls pre → Laid_as ls (printed_tokens p ps ++ token kind.End q [] ∷ []) (pre ++ ps)
+lay : (ps : List Printed) (s u : State) → Runs s ps u → Finished u → (q p : Place) (ls : rules.State) (pre : List Printed)
+    → Matches s p ls pre → Laid_as ls (printed_tokens p ps ++ token kind.End q [] ∷ []) (pre ++ ps)
 lay [] s u e fin q p ls pre t = finish u p ls pre q fin (subst (λ (x : State). Matches x p ls pre) e t)
 lay (x ∷ ps) s u (v, (t, r)) fin q p ls pre m = lay_step x ps s v q t (λ p ls pre n. lay ps v u r fin q p ls pre n) p ls pre m
 
@@ -613,5 +755,6 @@ start_due = record {
 }
 
 -- the tokens of words that lead from a module's start to its end are laid out with the marks among the words
-pub words_laid : (ps : List Printed) (u : State) → Runs (at free fresh (block_at 1 0 ∷ []) 0) ps u → Finished u → (q : Place) → Laid_as rules.start (printed_tokens start ps ++ token kind.End q [] ∷ []) (opened ∷ ps)
+pub words_laid : (ps : List Printed) (u : State) → Runs (at free fresh (block_at 1 0 ∷ []) 0) ps u → Finished u → (q : Place)
+    → Laid_as rules.start (printed_tokens start ps ++ token kind.End q [] ∷ []) (opened ∷ ps)
 words_laid ps u r fin q = lay ps (at free fresh (block_at 1 0 ∷ []) 0) u r fin q start rules.start (opened ∷ []) start_due

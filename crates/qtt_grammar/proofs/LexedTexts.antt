@@ -37,7 +37,9 @@ lexed_whole bytes u =
 unmarked : (ps : List Printed) → without_mark (chars (written (key (codes "module") ∷ ps))) ≡ chars (written (key (codes "module") ∷ ps))
 unmarked ps =
     let ascii = ascii_list (codes "module") refl in
-    let are : chars (codes "module" ++ written ps) ≡ codes "module" ++ chars (written ps) = chars-append (codes "module") (written ps) (IsUtf8-from_ascii (codes "module") ascii) ∙ ap (λ (v : List ℕ). v ++ chars (written ps)) (chars-IsAscii (codes "module") ascii) in
+    let are : chars (codes "module" ++ written ps) ≡ codes "module" ++ chars (written ps) =
+    chars-append (codes "module") (written ps) (IsUtf8-from_ascii (codes "module") ascii)
+    ∙ ap (λ (v : List ℕ). v ++ chars (written ps)) (chars-IsAscii (codes "module") ascii) in
     ap without_mark are ∙ sym are
 
 ends_allow : (l : Left) → Allows (spaced l) []
@@ -58,7 +60,8 @@ ends_tokens p = refl
 abbrev pub whole_tokens : List Printed → List Token
 whole_tokens ps = printed_tokens start ps ++ token kind.End (place_after start (chars (written ps))) [] ∷ []
 
-words_lexed : (ps : List Printed) → Goes (at free fresh (block_at 1 0 ∷ []) 0) (key (codes "module") ∷ ps) Finished → lexed (written (key (codes "module") ∷ ps)) ≡ Ok (whole_tokens (key (codes "module") ∷ ps))
+words_lexed : (ps : List Printed) → Goes (at free fresh (block_at 1 0 ∷ []) 0) (key (codes "module") ∷ ps) Finished
+    → lexed (written (key (codes "module") ∷ ps)) ≡ Ok (whole_tokens (key (codes "module") ∷ ps))
 words_lexed ps g =
     let all : List Printed = key (codes "module") ∷ ps in
     let x = runs_lexed (at free fresh (block_at 1 0 ∷ []) 0) g.last all g.runs in
@@ -68,5 +71,6 @@ words_lexed ps g =
     ∙ x.lex start [] (finished_allows g.last g.is)
     ∙ ap (with_front (printed_tokens start all)) (ends_tokens behind)
 
-pub printed_lexed : (t : Module) → Goes (at free fresh (block_at 1 0 ∷ []) 0) (behind_open t) Finished → lexed (printed t) ≡ Ok (whole_tokens (behind_open t))
+pub printed_lexed : (t : Module) → Goes (at free fresh (block_at 1 0 ∷ []) 0) (behind_open t) Finished
+    → lexed (printed t) ≡ Ok (whole_tokens (behind_open t))
 printed_lexed (module_text s n ns is ts) g = words_lexed _ g

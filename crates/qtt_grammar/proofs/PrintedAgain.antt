@@ -60,11 +60,14 @@ laid_out t g =
       words = open_lexemes ps x.marks x.shown (λ ns h. lexemes_shown ps s g.last g.runs ns h) ∙ ap sketched (opens_module t);
     }
 
-text_formed : (pass : Pass) (ls : List Lexeme) (t : Module) → Each (IsFair Fit) ls → IsText pass ls t None → formed.Module_formed Fit pass 200 199 t
+text_formed : (pass : Pass) (ls : List Lexeme) (t : Module) → Each (IsFair Fit) ls → IsText pass ls t None
+    → formed.Module_formed Fit pass 200 199 t
 unfolding IsText
 text_formed pass ls t f d = formed_module Fit wild pass 200 199 ls t f d
 
-pub printed_read_again : (pass : Pass) (bytes : List ℕ) (ts : List Token) (ms : List Laid) (t : Module) → lexed bytes ≡ Ok ts → tokens_in ms ≡ kept ts → IsText pass (lexemes ms) t None → (us : List Token) × (ns : List Laid) × (u : Module) × (lexed (printed t) ≡ Ok us) × (laid us ≡ Ok ns) × IsText pass (lexemes ns) u None × (bare_module u ≡ bare_module t)
+pub printed_read_again : (pass : Pass) (bytes : List ℕ) (ts : List Token) (ms : List Laid) (t : Module) → lexed bytes ≡ Ok ts
+    → tokens_in ms ≡ kept ts → IsText pass (lexemes ms) t None
+    → (us : List Token) × (ns : List Laid) × (u : Module) × (lexed (printed t) ≡ Ok us) × (laid us ≡ Ok ns) × IsText pass (lexemes ns) u None × (bare_module u ≡ bare_module t)
 printed_read_again pass bytes ts ms t h e d =
     let g = module_goes wild pass 200 199 t (text_formed pass (lexemes ms) t (fair_text bytes ts ms h e) d) in
     let x = laid_out t g in

@@ -181,19 +181,29 @@ block_at col brackets = record { col = col; brackets = brackets }
 
 -- a word or a mark leads from one state to another
 pub data Step : State → Printed → State → Type 0 where
-  plain_word : {l b : Left} {m : Mode} {bs : List Block} {k : ℕ} {w : Word} → Ready m → IsWord w b role.Plain → Follows l w → Step (at l m bs k) (word w) (at b (inline false []) bs k)
-  opener_word : {l b : Left} {m : Mode} {bs : List Block} {k : ℕ} {w : Word} → Ready m → IsWord w b role.Opener → Follows l w → Step (at l m bs k) (word w) (at b opener bs k)
-  left_bracket : {l b : Left} {m : Mode} {bs : List Block} {k : ℕ} {w : Word} → Ready m → IsWord w b role.LeftBracket → Follows l w → Step (at l m bs k) (word w) (at b (inline false []) bs (suc k))
-  right_bracket : {l : Left} {shut bs : List Block} {k : ℕ} → Loose l → Each (λ x. suc k ≤ x.brackets) shut → Under (λ x. x.brackets ≤ k) bs → Step (at l (inline false shut) bs (suc k)) (word (sign (codes ")"))) (at free (inline false []) bs k)
+  plain_word : {l b : Left} {m : Mode} {bs : List Block} {k : ℕ} {w : Word} → Ready m → IsWord w b role.Plain → Follows l w
+      → Step (at l m bs k) (word w) (at b (inline false []) bs k)
+  opener_word : {l b : Left} {m : Mode} {bs : List Block} {k : ℕ} {w : Word} → Ready m → IsWord w b role.Opener → Follows l w
+      → Step (at l m bs k) (word w) (at b opener bs k)
+  left_bracket : {l b : Left} {m : Mode} {bs : List Block} {k : ℕ} {w : Word} → Ready m → IsWord w b role.LeftBracket → Follows l w
+      → Step (at l m bs k) (word w) (at b (inline false []) bs (suc k))
+  right_bracket : {l : Left} {shut bs : List Block} {k : ℕ} → Loose l → Each (λ x. suc k ≤ x.brackets) shut
+      → Under (λ x. x.brackets ≤ k) bs
+      → Step (at l (inline false shut) bs (suc k)) (word (sign (codes ")"))) (at free (inline false []) bs k)
   a_blank : {l : Left} {bs : List Block} {k : ℕ} → Step (at l (inline false []) bs k) blank (at (spaced l) (inline false []) bs k)
-  breaks : {l : Left} {e : Bool} {shut bs : List Block} {k : ℕ} (n : ℕ) → Step (at l (inline e shut) bs k) (line n) (at (spaced l) (broken n e shut) bs k)
-  resumes : {l : Left} {n : ℕ} {shut bs : List Block} {k : ℕ} → Each (λ x. n + 2 < x.col) shut → Under (λ x. x.col < n + 2) bs → Step (at l (broken n false shut) bs k) blank (at l fresh bs k)
+  breaks : {l : Left} {e : Bool} {shut bs : List Block} {k : ℕ} (n : ℕ)
+      → Step (at l (inline e shut) bs k) (line n) (at (spaced l) (broken n e shut) bs k)
+  resumes : {l : Left} {n : ℕ} {shut bs : List Block} {k : ℕ} → Each (λ x. n + 2 < x.col) shut → Under (λ x. x.col < n + 2) bs
+      → Step (at l (broken n false shut) bs k) blank (at l fresh bs k)
   ends_item : {l : Left} {e : Bool} {shut bs : List Block} {k : ℕ} → Step (at l (inline e shut) bs k) next (at l (stepping e shut) bs k)
-  begins_item : {l : Left} {e : Bool} {shut bs : List Block} {k n : ℕ} → Each (λ x. n + 1 < x.col) shut → Under (λ x. x.col ≡ n + 1) bs → Step (at l (stepping e shut) bs k) (line n) (at free fresh bs k)
+  begins_item : {l : Left} {e : Bool} {shut bs : List Block} {k n : ℕ} → Each (λ x. n + 1 < x.col) shut → Under (λ x. x.col ≡ n + 1) bs
+      → Step (at l (stepping e shut) bs k) (line n) (at free fresh bs k)
   opens : {l : Left} {bs : List Block} {k : ℕ} → Step (at l opener bs k) opened (at l opening bs k)
-  indents : {l : Left} {bs : List Block} {k n : ℕ} → Under (λ x. x.col < n + 1) bs → Step (at l opening bs k) (line n) (at free fresh (bs ++ block_at (n + 1) k ∷ []) k)
+  indents : {l : Left} {bs : List Block} {k n : ℕ} → Under (λ x. x.col < n + 1) bs
+      → Step (at l opening bs k) (line n) (at free fresh (bs ++ block_at (n + 1) k ∷ []) k)
   empties : {l : Left} {bs : List Block} {k : ℕ} → Step (at l opening bs k) closed (at l (inline true []) bs k)
-  shuts : {l : Left} {e : Bool} {shut bs others : List Block} {x : Block} {k : ℕ} → bs ≡ others ++ x ∷ [] → Step (at l (inline e shut) bs k) closed (at l (inline e (x ∷ shut)) others k)
+  shuts : {l : Left} {e : Bool} {shut bs others : List Block} {x : Block} {k : ℕ} → bs ≡ others ++ x ∷ []
+      → Step (at l (inline e shut) bs k) closed (at l (inline e (x ∷ shut)) others k)
 
 abbrev pub Runs : State → List Printed → State → Type 0
 Runs s [] u = s ≡ u
@@ -215,8 +225,10 @@ runs-append : (s u v : State) (ps qs : List Printed) → Runs s ps u → Runs u 
 runs-append s u v [] qs e r = subst (λ (x : State). Runs x qs v) (sym e) r
 runs-append s u v (p ∷ ps) qs (w, (t, e)) r = (w, (t, runs-append w u v ps qs e r))
 
-pub goes_then : {s : State} {ps qs : List Printed} {R S : State → Type 0} → Goes s ps R → ((u : State) → R u → Goes u qs S) → Goes s (ps ++ qs) S
-goes_then {s} {ps} {qs} g f = let h = f g.last g.is in record { last = h.last; runs = runs-append s g.last h.last ps qs g.runs h.runs; is = h.is }
+pub goes_then : {s : State} {ps qs : List Printed} {R S : State → Type 0} → Goes s ps R → ((u : State) → R u → Goes u qs S)
+    → Goes s (ps ++ qs) S
+goes_then {s} {ps} {qs} g f =
+    let h = f g.last g.is in record { last = h.last; runs = runs-append s g.last h.last ps qs g.runs h.runs; is = h.is }
 
 pub goes_wider : {s : State} {ps : List Printed} {R S : State → Type 0} → Goes s ps R → ((u : State) → R u → S u) → Goes s ps S
 goes_wider g f = record { last = g.last; runs = g.runs; is = f g.last g.is }

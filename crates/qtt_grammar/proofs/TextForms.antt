@@ -35,13 +35,16 @@ Fine _ = Unit {0}
 
 -- ---- what is looked up
 
-listed_case : (b : Bool) (x k : TokenKind) (rest : Option TokenKind) → Fine x → (rest ≡ Some k → Fine k) → cond b (Some x) rest ≡ Some k → Fine k
-listed_case true x k rest f g e = subst Fine (let h = e in cc) f
-listed_case false x k rest f g e = g e
+listed_case : (P : TokenKind → Type 0) (b : Bool) (x k : TokenKind) (rest : Option TokenKind) → P x → (rest ≡ Some k → P k)
+    → cond b (Some x) rest ≡ Some k → P k
+listed_case P true x k rest f g e = subst P (let h = e in cc) f
+listed_case P false x k rest f g e = g e
 
-listed_fine : (ps : List (List ℕ × TokenKind)) (w : List ℕ) (k : TokenKind) → Each (λ p. Fine p.1) ps → listed ps w ≡ Some k → Fine k
-listed_fine [] w k f e = absurd cc
-listed_fine (p ∷ ps) w k f e = listed_case (pointwise nat_eq w p.0) p.1 k (listed ps w) f.0 (λ h. listed_fine ps w k f.1 h) e
+-- what holds of all kinds of a list holds of what is looked up there
+pub listed_each : (P : TokenKind → Type 0) (ps : List (List ℕ × TokenKind)) (w : List ℕ) (k : TokenKind) → Each (λ p. P p.1) ps
+    → listed ps w ≡ Some k → P k
+listed_each P [] w k f e = absurd cc
+listed_each P (p ∷ ps) w k f e = listed_case P (pointwise nat_eq w p.0) p.1 k (listed ps w) f.0 (λ h. listed_each P ps w k f.1 h) e
 
 missed_case : {A : Type 0} (b : Bool) (x : A) (rest : Option A) → cond b (Some x) rest ≡ None → (b ≡ false) × (rest ≡ None)
 missed_case true x rest e = absurd cc
@@ -59,7 +62,7 @@ unreserved w e = let m = listed_miss reserved_words w e in ap (λ (b : Bool). co
 
 word_case : (o : Option TokenKind) (w : List ℕ) → listed reserved_words w ≡ o → Fine (unwrap_or o (kind.Name w))
 word_case None w e = unreserved w e
-word_case (Some k) w e = listed_fine reserved_words w k reserved_fine e
+word_case (Some k) w e = listed_each Fine reserved_words w k reserved_fine e
 
 word_fine : (w : List ℕ) → Fine (unwrap_or (reserved w) (kind.Name w))
 unfolding reserved
@@ -71,8 +74,8 @@ token_fine k cs (hole c ds w n e h) = tt
 token_fine k cs (number c n ds a d e) = tt
 token_fine k cs (negative c n ds a d e) = tt
 token_fine k cs (text body value ds s e) = tt
-token_fine k cs (one c j e) = listed_fine singles (c ∷ []) j (tt, (tt, (tt, (tt, (tt, (tt, (tt, (tt, tt)))))))) e
-token_fine k cs (two c d j e) = listed_fine pairs (c ∷ d ∷ []) j (tt, (tt, (tt, (tt, tt)))) e
+token_fine k cs (one c j e) = listed_each Fine singles (c ∷ []) j (tt, (tt, (tt, (tt, (tt, (tt, (tt, (tt, tt)))))))) e
+token_fine k cs (two c d j e) = listed_each Fine pairs (c ∷ d ∷ []) j (tt, (tt, (tt, (tt, tt)))) e
 
 -- ---- tokens of a text
 
@@ -90,17 +93,18 @@ cuts_fine p (cut ∷ cuts) a = with_fine p cut cut.kind _ a.0.form (cuts_fine (p
 text_fine : (bytes : List ℕ) (ts : List Token) → IsText bytes ts → Each FineToken ts
 text_fine bytes ts t = subst (Each FineToken) (sym t.parts.tokens) (cuts_fine _ t.parts.cuts t.parts.longest)
 
-kept_case : (r : Role) (t : Token) (rest : List Token) → FineToken t → Each FineToken rest → Each FineToken (kept_by r t rest)
-kept_case role.Opener t rest f e = (f, e)
-kept_case role.LeftBracket t rest f e = (f, e)
-kept_case role.RightBracket t rest f e = (f, e)
-kept_case role.Semicolon t rest f e = e
-kept_case role.End t rest f e = tt
-kept_case role.Plain t rest f e = (f, e)
+kept_case : (P : Token → Type 0) (r : Role) (t : Token) (rest : List Token) → P t → Each P rest → Each P (kept_by r t rest)
+kept_case P role.Opener t rest f e = (f, e)
+kept_case P role.LeftBracket t rest f e = (f, e)
+kept_case P role.RightBracket t rest f e = (f, e)
+kept_case P role.Semicolon t rest f e = e
+kept_case P role.End t rest f e = tt
+kept_case P role.Plain t rest f e = (f, e)
 
-kept_fine : (ts : List Token) → Each FineToken ts → Each FineToken (kept ts)
-kept_fine [] e = tt
-kept_fine (t ∷ ts) e = kept_case (role_of t.kind) t (kept ts) e.0 (kept_fine ts e.1)
+-- what holds of all tokens holds of those that are kept
+pub kept_each : (P : Token → Type 0) (ts : List Token) → Each P ts → Each P (kept ts)
+kept_each P [] e = tt
+kept_each P (t ∷ ts) e = kept_case P (role_of t.kind) t (kept ts) e.0 (kept_each P ts e.1)
 
 -- ---- lexemes
 
@@ -130,15 +134,16 @@ joined_forms : (x : Lexeme) (ls : List Lexeme) → HasForm x → HaveForms ls �
 joined_forms x [] f g = (f, tt)
 joined_forms x (y ∷ ls) f g = joined_case (takes_number x y) x y ls f g
 
-heads_fine : (x : Laid) (xs : List Laid) → Each FineToken (tokens_in (x ∷ xs)) → Each FineToken (tokens_in (x ∷ [])) × Each FineToken (tokens_in xs)
-heads_fine (laid.Open s) xs e = (tt, e)
-heads_fine (laid.Next s) xs e = (tt, e)
-heads_fine (laid.Close s) xs e = (tt, e)
-heads_fine (laid.Tok t) xs e = ((e.0, tt), e.1)
+pub heads_each : (P : Token → Type 0) (x : Laid) (xs : List Laid) → Each P (tokens_in (x ∷ xs))
+    → Each P (tokens_in (x ∷ [])) × Each P (tokens_in xs)
+heads_each P (laid.Open s) xs e = (tt, e)
+heads_each P (laid.Next s) xs e = (tt, e)
+heads_each P (laid.Close s) xs e = (tt, e)
+heads_each P (laid.Tok t) xs e = ((e.0, tt), e.1)
 
 lexeme_forms : (ms : List Laid) → Each FineToken (tokens_in ms) → HaveForms (lexemes ms)
 lexeme_forms [] e = tt
-lexeme_forms (x ∷ xs) e = let h = heads_fine x xs e in joined_forms (lexeme_of x) (lexemes xs) (laid_form x h.0) (lexeme_forms xs h.1)
+lexeme_forms (x ∷ xs) e = let h = heads_each FineToken x xs e in joined_forms (lexeme_of x) (lexemes xs) (laid_form x h.0) (lexeme_forms xs h.1)
 
 pub text_forms : (bytes : List ℕ) (ts : List Token) (ms : List Laid) → IsText bytes ts → tokens_in ms ≡ kept ts → HaveForms (lexemes ms)
-text_forms bytes ts ms t e = lexeme_forms ms (subst (Each FineToken) (sym e) (kept_fine ts (text_fine bytes ts t)))
+text_forms bytes ts ms t e = lexeme_forms ms (subst (Each FineToken) (sym e) (kept_each FineToken ts (text_fine bytes ts t)))

@@ -52,7 +52,8 @@ pub record Within (c k : ℕ) (bs : List Block) : Type 0 where
 
 -- behind an expression: blocks may have closed there
 pub data Ends (c k : ℕ) (bs : List Block) (unclosed : Bool) : State → Type 0 where
-  ends : (l : Left) (shut : List Block) → Loose l → Each (Deep c k) shut → (unclosed ≡ false → shut ≡ []) → Ends c k bs unclosed (at l (inline false shut) bs k)
+  ends : (l : Left) (shut : List Block) → Loose l → Each (Deep c k) shut → (unclosed ≡ false → shut ≡ [])
+      → Ends c k bs unclosed (at l (inline false shut) bs k)
 
 abbrev pub Fine : Bool → Left → Type 0
 Fine true l = Untyped l
@@ -144,76 +145,89 @@ First l (opened ∷ ps) = ⊥
 First l (next ∷ ps) = ⊥
 First l (closed ∷ ps) = ⊥
 
-restart_step : (l : Left) (m : Mode) (bs : List Block) (k : ℕ) (w : Word) (v : State) → is_right w ≡ false → Follows l w → Step (at free m bs k) (word w) v → Step (at l m bs k) (word w) v
+restart_step : (l : Left) (m : Mode) (bs : List Block) (k : ℕ) (w : Word) (v : State) → is_right w ≡ false → Follows l w
+    → Step (at free m bs k) (word w) v → Step (at l m bs k) (word w) v
 restart_step l m bs k w v e f (plain_word r i g) = plain_word r i f
 restart_step l m bs k w v e f (opener_word r i g) = opener_word r i f
 restart_step l m bs k w v e f (left_bracket r i g) = left_bracket r i f
 restart_step l m bs k w v e f (right_bracket lo a u) = absurd (let h = e in cc)
 
-pub restart : {m : Mode} {bs : List Block} {k : ℕ} {R : State → Type 0} (l : Left) (ps : List Printed) → First l ps → Goes (at free m bs k) ps R → Goes (at l m bs k) ps R
+pub restart : {m : Mode} {bs : List Block} {k : ℕ} {R : State → Type 0} (l : Left) (ps : List Printed) → First l ps
+    → Goes (at free m bs k) ps R → Goes (at l m bs k) ps R
 restart l [] f g = absurd f
-restart {m} {bs} {k} l (word w ∷ ps) f g = let r = g.runs in record { last = g.last; runs = (r.0, (restart_step l m bs k w r.0 f.0 f.1 r.1.0, r.1.1)); is = g.is }
+restart {m} {bs} {k} l (word w ∷ ps) f g =
+    let r = g.runs in record { last = g.last; runs = (r.0, (restart_step l m bs k w r.0 f.0 f.1 r.1.0, r.1.1)); is = g.is }
 restart l (blank ∷ ps) f g = absurd f
 restart l (line n ∷ ps) f g = absurd f
 restart l (opened ∷ ps) f g = absurd f
 restart l (next ∷ ps) f g = absurd f
 restart l (closed ∷ ps) f g = absurd f
 
-first_bracketed : (l : Left) (b : Bool) (ws : List Printed) → Blanked l → (b ≡ true → First l ws) → First l (bracketed b ws)
-first_bracketed l true ws i f = f refl
-first_bracketed l false ws i f = (refl, blanked_follows l (sign (codes "(")) i refl)
-
 -- ---- parts of expressions
 
 module _ {l b : Left} {m : Mode} {bs : List Block} {k : ℕ} {s : List ℕ} {ps : List Printed} {R : State → Type 0} where
   -- a keyword or a symbol
-  pub keyed : Sign s b role.Plain → Ready m → Follows l (sign s) → Goes (at b (inline false []) bs k) ps R → Goes (at l m bs k) (key s ∷ ps) R
+  pub keyed : Sign s b role.Plain → Ready m → Follows l (sign s) → Goes (at b (inline false []) bs k) ps R
+      → Goes (at l m bs k) (key s ∷ ps) R
   keyed i r f g = steps (plain_word r (a_sign i) f) g
 
-  pub opened_by : Sign s b role.LeftBracket → Ready m → Follows l (sign s) → Goes (at b (inline false []) bs (suc k)) ps R → Goes (at l m bs k) (key s ∷ ps) R
+  pub opened_by : Sign s b role.LeftBracket → Ready m → Follows l (sign s) → Goes (at b (inline false []) bs (suc k)) ps R
+      → Goes (at l m bs k) (key s ∷ ps) R
   opened_by i r f g = steps (left_bracket r (a_sign i) f) g
 
-pub name_then : {n : List ℕ} {m : Mode} {bs : List Block} {k : ℕ} {ps : List Printed} {R : State → Type 0} → Fit (named n) → Ready m → Goes (at wordy (inline false []) bs k) ps R → Goes (at free m bs k) (word (named n) ∷ ps) R
+pub name_then : {n : List ℕ} {m : Mode} {bs : List Block} {k : ℕ} {ps : List Printed} {R : State → Type 0} → Fit (named n) → Ready m
+    → Goes (at wordy (inline false []) bs k) ps R → Goes (at free m bs k) (word (named n) ∷ ps) R
 name_then f r g = steps (plain_word r (a_name f) tt) g
 
--- behind blanks anything may follow, where no `Type` stands before them
-spaced_then : {l : Left} {bs : List Block} {k : ℕ} {ps : List Printed} {R : State → Type 0} → Untyped l → Goes (at free (inline false []) bs k) ps R → Goes (at l (inline false []) bs k) (blank ∷ ps) R
-spaced_then untyped_free g = steps a_blank g
-spaced_then untyped_wordy g = steps a_blank g
-
 -- `)` behind an expression
-pub bracket_ends : {b : Bool} {c k : ℕ} {bs : List Block} (u : State) → Within c k bs → Ends c (suc k) bs b u → Goes u (key (codes ")") ∷ []) (Stands true k bs)
-bracket_ends u w (ends l shut o d n) = steps (right_bracket o (each_wider shut (λ x e. e.1) d) (under_brackets w)) (stays (stands free untyped_free))
+pub bracket_ends : {b : Bool} {c k : ℕ} {bs : List Block} (u : State) → Within c k bs → Ends c (suc k) bs b u
+    → Goes u (key (codes ")") ∷ []) (Stands true k bs)
+bracket_ends u w (ends l shut o d n) =
+    steps (right_bracket o (each_wider shut (λ x e. e.1) d) (under_brackets w)) (stays (stands free untyped_free))
 
-pub bracketed_goes : {b : Bool} {c k : ℕ} {bs : List Block} {m : Mode} {ws : List Printed} → Within c k bs → Ready m → Goes (at free (inline false []) bs (suc k)) ws (Ends c (suc k) bs b) → Goes (at free m bs k) (in_brackets ws) (Stands true k bs)
+pub bracketed_goes : {b : Bool} {c k : ℕ} {bs : List Block} {m : Mode} {ws : List Printed} → Within c k bs → Ready m
+    → Goes (at free (inline false []) bs (suc k)) ws (Ends c (suc k) bs b) → Goes (at free m bs k) (in_brackets ws) (Stands true k bs)
 bracketed_goes w r g = opened_by left_sign r tt (goes_then g (λ u e. bracket_ends u w e))
 
 -- before a symbol that must end an open `do`
 pub parted_goes : {c k : ℕ} {bs : List Block} (b : Bool) (u : State) → Within c k bs → Ends c k bs b u → Goes u (parted c b) (Resumes k bs)
-parted_goes {c} true u w (ends l shut o d n) = steps (breaks c) (steps (resumes (each_wider shut (λ x e. omega (arith, e.0)) d) (under_left w)) (stays (resumed (spaced l) fresh ready_fresh (blanked_of l o))))
-parted_goes false u w (ends l shut o d n) = rw (n refl) (steps a_blank (stays (resumed (spaced l) (inline false []) ready_inline (blanked_of l o))))
+parted_goes {c} true u w (ends l shut o d n) =
+    steps (breaks c)
+    (steps (resumes (each_wider shut (λ x e. omega (arith, e.0)) d) (under_left w)) (stays (resumed (spaced l) fresh ready_fresh
+    (blanked_of l o))))
+parted_goes false u w (ends l shut o d n) =
+    rw (n refl) (steps a_blank (stays (resumed (spaced l) (inline false []) ready_inline (blanked_of l o))))
 
 -- `}` behind an expression
-pub brace_ends : {c k : ℕ} {bs : List Block} (b : Bool) (u : State) → Within c k bs → Ends c k bs b u → Goes u (broken_words c b ++ key (codes "}") ∷ []) (Stands true k bs)
-brace_ends {c} true u w (ends l shut o d n) = steps (breaks c) (steps (resumes (each_wider shut (λ x e. omega (arith, e.0)) d) (under_left w)) (keyed end_brace_sign ready_fresh (blanked_follows (spaced l) (sign (codes "}")) (blanked_of l o) refl) (stays (stands free untyped_free))))
-brace_ends false u w (ends l shut o d n) = rw (n refl) (keyed end_brace_sign ready_inline (loose_brace l o) (stays (stands free untyped_free)))
+pub brace_ends : {c k : ℕ} {bs : List Block} (b : Bool) (u : State) → Within c k bs → Ends c k bs b u
+    → Goes u (broken_words c b ++ key (codes "}") ∷ []) (Stands true k bs)
+brace_ends {c} true u w (ends l shut o d n) =
+    steps (breaks c)
+    (steps (resumes (each_wider shut (λ x e. omega (arith, e.0)) d) (under_left w)) (keyed end_brace_sign ready_fresh (blanked_follows
+    (spaced l) (sign (codes "}")) (blanked_of l o) refl) (stays (stands free untyped_free))))
+brace_ends false u w (ends l shut o d n) =
+    rw (n refl) (keyed end_brace_sign ready_inline (loose_brace l o) (stays (stands free untyped_free)))
 
-marked_goes : {k : ℕ} {bs : List Block} {R : State → Type 0} {ps : List Printed} {md : Mode} (m : Mult) → Ready md → ((n : Mode) → Ready n → Goes (at free n bs k) ps R) → Goes (at free md bs k) (marked m ++ ps) R
+marked_goes : {k : ℕ} {bs : List Block} {R : State → Type 0} {ps : List Printed} {md : Mode} (m : Mult) → Ready md
+    → ((n : Mode) → Ready n → Goes (at free n bs k) ps R) → Goes (at free md bs k) (marked m ++ ps) R
 marked_goes mult.Zero r g = steps (plain_word r (a_numeral (omega arith)) tt) (steps a_blank (g (inline false []) ready_inline))
 marked_goes mult.One r g = steps (plain_word r (a_numeral (omega arith)) tt) (steps a_blank (g (inline false []) ready_inline))
 marked_goes mult.Many r g = g _ r
 
 -- [mark] bname ":" and what stands behind it
-pub binding_goes : {k : ℕ} {bs : List Block} {R : State → Type 0} {ws : List Printed} {md : Mode} (m : Mult) (n : List ℕ) → Ready md → Fit (named n) → Goes (at free (inline false []) bs k) ws R → Goes (at free md bs k) (binding m n ws) R
+pub binding_goes : {k : ℕ} {bs : List Block} {R : State → Type 0} {ws : List Printed} {md : Mode} (m : Mult) (n : List ℕ) → Ready md
+    → Fit (named n) → Goes (at free (inline false []) bs k) ws R → Goes (at free md bs k) (binding m n ws) R
 binding_goes m n r f g = marked_goes m r (λ md q. name_then f q (steps a_blank (keyed colon_sign ready_inline tt (steps a_blank g))))
 
 -- where an expression may begin it goes on to its end
 abbrev pub Expression : ℕ → Tree → Type 0
-Expression c t = (k : ℕ) (bs : List Block) (m : Mode) → Ready m → Within c k bs → Goes (at free m bs k) (expr c t) (Ends c k bs (ends_open t))
+Expression c t =
+    (k : ℕ) (bs : List Block) (m : Mode) → Ready m → Within c k bs → Goes (at free m bs k) (expr c t) (Ends c k bs (ends_open t))
 
 -- ---- atoms
 
-level_goes : {k : ℕ} {bs : List Block} {m : Mode} (b v : Bool) (i : ℕ) → nat_eq i 0 ≡ v → (b && v) ≡ false → Fit (type_at i) → Ready m → Goes (at free m bs k) (word (cond v bare_type (type_at i)) ∷ []) (Stands b k bs)
+level_goes : {k : ℕ} {bs : List Block} {m : Mode} (b v : Bool) (i : ℕ) → nat_eq i 0 ≡ v → (b && v) ≡ false → Fit (type_at i) → Ready m
+    → Goes (at free m bs k) (word (cond v bare_type (type_at i)) ∷ []) (Stands b k bs)
 level_goes true true i e f g r = absurd cc
 level_goes false true i e f g r = steps (plain_word r a_type tt) (stays (stands typed loose_typed))
 level_goes b false i e f g r = steps (plain_word r (a_level g) tt) (stays (stands wordy (fine_wordy b)))
@@ -227,24 +241,34 @@ module _ (pass : Pass) where
   F = formed.Formed Fit pass
 
   -- an atom that isn't `Type` of level 0 before a number
-  plain_atom : (b : Bool) (c k : ℕ) (bs : List Block) (m : Mode) (t : Tree) → F t → (b && is_level_0 t) ≡ false → Ready m → Within c k bs → Expression c t → Goes (at free m bs k) (bracketed (is_atom t) (expr c t)) (Stands b k bs)
+  plain_atom : (b : Bool) (c k : ℕ) (bs : List Block) (m : Mode) (t : Tree) → F t → (b && is_level_0 t) ≡ false → Ready m → Within c k bs
+      → Expression c t → Goes (at free m bs k) (bracketed (is_atom t) (expr c t)) (Stands b k bs)
   plain_atom b c k bs m (name n) f e r w g = name_then f.1.1 r (stays (stands wordy (fine_wordy b)))
   plain_atom b c k bs m (number z s) f e r w g = steps (plain_word r (a_numeral f) tt) (stays (stands wordy (fine_wordy b)))
   plain_atom b c k bs m (text v s) f e r w g = steps (plain_word r (a_text f.1) tt) (stays (stands free (fine_free b)))
   plain_atom b c k bs m (universe i is s) f e r w g = level_goes b (nat_eq i 0) i refl e f.1 r
-  plain_atom b c k bs m (hole n s) f e r w g = goes_wider (bracketed_goes w r (g (suc k) bs (inline false []) ready_inline (within_more w))) (atom_ends b)
-  plain_atom b c k bs m (the t u s) f e r w g = goes_wider (bracketed_goes w r (g (suc k) bs (inline false []) ready_inline (within_more w))) (atom_ends b)
-  plain_atom b c k bs m (apply h args s) f e r w g = goes_wider (bracketed_goes w r (g (suc k) bs (inline false []) ready_inline (within_more w))) (atom_ends b)
-  plain_atom b c k bs m (pi i q n d v s) f e r w g = goes_wider (bracketed_goes w r (g (suc k) bs (inline false []) ready_inline (within_more w))) (atom_ends b)
-  plain_atom b c k bs m (lambda ps t s) f e r w g = goes_wider (bracketed_goes w r (g (suc k) bs (inline false []) ready_inline (within_more w))) (atom_ends b)
-  plain_atom b c k bs m (letting q n t d v s) f e r w g = goes_wider (bracketed_goes w r (g (suc k) bs (inline false []) ready_inline (within_more w))) (atom_ends b)
-  plain_atom b c k bs m (doing ss s) f e r w g = goes_wider (bracketed_goes w r (g (suc k) bs (inline false []) ready_inline (within_more w))) (atom_ends b)
+  plain_atom b c k bs m (hole n s) f e r w g =
+      goes_wider (bracketed_goes w r (g (suc k) bs (inline false []) ready_inline (within_more w))) (atom_ends b)
+  plain_atom b c k bs m (the t u s) f e r w g =
+      goes_wider (bracketed_goes w r (g (suc k) bs (inline false []) ready_inline (within_more w))) (atom_ends b)
+  plain_atom b c k bs m (apply h args s) f e r w g =
+      goes_wider (bracketed_goes w r (g (suc k) bs (inline false []) ready_inline (within_more w))) (atom_ends b)
+  plain_atom b c k bs m (pi i q n d v s) f e r w g =
+      goes_wider (bracketed_goes w r (g (suc k) bs (inline false []) ready_inline (within_more w))) (atom_ends b)
+  plain_atom b c k bs m (lambda ps t s) f e r w g =
+      goes_wider (bracketed_goes w r (g (suc k) bs (inline false []) ready_inline (within_more w))) (atom_ends b)
+  plain_atom b c k bs m (letting q n t d v s) f e r w g =
+      goes_wider (bracketed_goes w r (g (suc k) bs (inline false []) ready_inline (within_more w))) (atom_ends b)
+  plain_atom b c k bs m (doing ss s) f e r w g =
+      goes_wider (bracketed_goes w r (g (suc k) bs (inline false []) ready_inline (within_more w))) (atom_ends b)
 
-  atom_by : (v b : Bool) (c k : ℕ) (bs : List Block) (m : Mode) (t : Tree) → (b && is_level_0 t) ≡ v → F t → Ready m → Within c k bs → Expression c t → Goes (at free m bs k) (cond v (word (type_at 0) ∷ []) (bracketed (is_atom t) (expr c t))) (Stands b k bs)
+  atom_by : (v b : Bool) (c k : ℕ) (bs : List Block) (m : Mode) (t : Tree) → (b && is_level_0 t) ≡ v → F t → Ready m → Within c k bs
+      → Expression c t → Goes (at free m bs k) (cond v (word (type_at 0) ∷ []) (bracketed (is_atom t) (expr c t))) (Stands b k bs)
   atom_by true b c k bs m t e f r w g = steps (plain_word r (a_level (omega arith)) tt) (stays (stands wordy (fine_wordy b)))
   atom_by false b c k bs m t e f r w g = plain_atom b c k bs m t f e r w g
 
-  atom_goes : (b : Bool) (c k : ℕ) (bs : List Block) (m : Mode) (t : Tree) → F t → Ready m → Within c k bs → Expression c t → Goes (at free m bs k) (atom b t (expr c t)) (Stands b k bs)
+  atom_goes : (b : Bool) (c k : ℕ) (bs : List Block) (m : Mode) (t : Tree) → F t → Ready m → Within c k bs → Expression c t
+      → Goes (at free m bs k) (atom b t (expr c t)) (Stands b k bs)
   atom_goes b c k bs m t f r w g = atom_by (b && is_level_0 t) b c k bs m t refl f r w g
 
   -- ---- what may follow `Type` and a blank, or `{`
@@ -266,16 +290,21 @@ module _ (pass : Pass) where
   plain_first l c (letting q n t d v s) e a = (refl, blanked_follows l (sign (codes "(")) a refl)
   plain_first l c (doing ss s) e a = (refl, blanked_follows l (sign (codes "(")) a refl)
 
-  atom_first : (v : Bool) (l : Left) (c : ℕ) (t : Tree) → is_number t ≡ false → Blanked l → First l (cond v (word (type_at 0) ∷ []) (bracketed (is_atom t) (expr c t)))
+  atom_first : (v : Bool) (l : Left) (c : ℕ) (t : Tree) → is_number t ≡ false → Blanked l
+      → First l (cond v (word (type_at 0) ∷ []) (bracketed (is_atom t) (expr c t)))
   atom_first true l c t e a = (refl, blanked_follows l (type_at 0) a refl)
   atom_first false l c t e a = plain_first l c t e a
 
   -- an atom behind a blank, where no number stands behind `Type`
-  next_atom_by : (i : Bool) (b : Bool) (c k : ℕ) (bs : List Block) (l : Left) (t : Tree) → is_number t ≡ i → Fine i l → F t → Within c k bs → Expression c t → Goes (at (spaced l) (inline false []) bs k) (atom b t (expr c t)) (Stands b k bs)
+  next_atom_by : (i : Bool) (b : Bool) (c k : ℕ) (bs : List Block) (l : Left) (t : Tree) → is_number t ≡ i → Fine i l → F t → Within c k bs
+      → Expression c t → Goes (at (spaced l) (inline false []) bs k) (atom b t (expr c t)) (Stands b k bs)
   next_atom_by true b c k bs l t e f g w h = rw (untyped_blank l f) (atom_goes b c k bs (inline false []) t g ready_inline w h)
-  next_atom_by false b c k bs l t e f g w h = restart (spaced l) (atom b t (expr c t)) (atom_first (b && is_level_0 t) (spaced l) c t e (blanked_of l f)) (atom_goes b c k bs (inline false []) t g ready_inline w h)
+  next_atom_by false b c k bs l t e f g w h =
+      restart (spaced l) (atom b t (expr c t)) (atom_first (b && is_level_0 t) (spaced l) c t e (blanked_of l f))
+      (atom_goes b c k bs (inline false []) t g ready_inline w h)
 
-  next_atom : (b : Bool) (c k : ℕ) (bs : List Block) (l : Left) (t : Tree) → Fine (is_number t) l → F t → Within c k bs → Expression c t → Goes (at (spaced l) (inline false []) bs k) (atom b t (expr c t)) (Stands b k bs)
+  next_atom : (b : Bool) (c k : ℕ) (bs : List Block) (l : Left) (t : Tree) → Fine (is_number t) l → F t → Within c k bs → Expression c t
+      → Goes (at (spaced l) (inline false []) bs k) (atom b t (expr c t)) (Stands b k bs)
   next_atom b c k bs l t f g w h = next_atom_by (is_number t) b c k bs l t refl f g w h
 
   first_append : (l : Left) (ps qs : List Printed) → First l ps → First l (ps ++ qs)
@@ -308,12 +337,14 @@ module _ (pass : Pass) where
   plain_dash c (letting q n t d v s) e = (refl, refl)
   plain_dash c (doing ss s) e = (refl, refl)
 
-  atom_dash : (v : Bool) (c : ℕ) (t : Tree) → is_negative t ≡ false → First brace (cond v (word (type_at 0) ∷ []) (bracketed (is_atom t) (expr c t)))
+  atom_dash : (v : Bool) (c : ℕ) (t : Tree) → is_negative t ≡ false
+      → First brace (cond v (word (type_at 0) ∷ []) (bracketed (is_atom t) (expr c t)))
   atom_dash true c t e = (refl, refl)
   atom_dash false c t e = plain_dash c t e
 
   apply_dash : (c : ℕ) (h : Tree) (args : Arguments) (s : Span) → is_negative h ≡ false → First brace (expr c (apply h args s))
-  apply_dash c h args s e = first_append brace (atom (number_first args) h (expr c h)) (arguments c args) (atom_dash (number_first args && is_level_0 h) c h e)
+  apply_dash c h args s e =
+      first_append brace (atom (number_first args) h (expr c h)) (arguments c args) (atom_dash (number_first args && is_level_0 h) c h e)
 
   app_dash : (c : ℕ) (t : Tree) → app_negative t ≡ false → First brace (bracketed (is_app t) (expr c t))
   app_dash c (name n) e = (refl, refl)
@@ -328,11 +359,13 @@ module _ (pass : Pass) where
   app_dash c (letting q n t d v s) e = (refl, refl)
   app_dash c (doing ss s) e = (refl, refl)
 
-  domain_dash : (v : Bool) (c : ℕ) (m : Mult) (n : List ℕ) (t : Tree) → (v && app_negative t) ≡ false → First brace (cond v (bracketed (is_app t) (expr c t)) (in_brackets (binding m n (expr c t))))
+  domain_dash : (v : Bool) (c : ℕ) (m : Mult) (n : List ℕ) (t : Tree) → (v && app_negative t) ≡ false
+      → First brace (cond v (bracketed (is_app t) (expr c t)) (in_brackets (binding m n (expr c t))))
   domain_dash true c m n t e = app_dash c t e
   domain_dash false c m n t e = (refl, refl)
 
-  pi_dash : (c : ℕ) (i : Mark) (m : Mult) (n : List ℕ) (t u : Tree) (s : Span) → (is_arrow i m n && app_negative t) ≡ false → First brace (expr c (pi i m n t u s))
+  pi_dash : (c : ℕ) (i : Mark) (m : Mult) (n : List ℕ) (t u : Tree) (s : Span) → (is_arrow i m n && app_negative t) ≡ false
+      → First brace (expr c (pi i m n t u s))
   pi_dash c Written m n t u s e = first_append brace (domain c Written m n t (expr c t)) _ (domain_dash (is_arrow Written m n) c m n t e)
   pi_dash c Braced m n t u s e = (refl, refl)
   pi_dash c Inserted m n t u s e = (refl, refl)
@@ -356,15 +389,21 @@ module _ (pass : Pass) where
   pub stand_ends : {b o : Bool} {c k : ℕ} {bs : List Block} (u : State) → Stands b k bs u → Ends c k bs o u
   stand_ends {b} u (stands l f) = ends l [] (fine_loose b l f) tt (λ e. refl)
 
-  looser : {b : Bool} {c k : ℕ} {bs : List Block} (u : State) → Ends c k bs b u → Ends c k bs true u
+  pub looser : {b : Bool} {c k : ℕ} {bs : List Block} (u : State) → Ends c k bs b u → Ends c k bs true u
   looser u (ends l shut o d n) = ends l shut o d (λ e. absurd cc)
 
-  braces_by : (v : Bool) (c k : ℕ) (bs : List Block) (t : Tree) → begins_negative t ≡ v → Within c k bs → Expression c t → Goes (at brace (inline false []) bs k) (cond v (blank ∷ []) [] ++ (expr c t ++ (broken_words c (ends_open t) ++ key (codes "}") ∷ []))) (Stands true k bs)
-  braces_by true c k bs t e w h = steps a_blank (goes_then (h k bs (inline false []) ready_inline w) (λ u n. brace_ends (ends_open t) u w n))
-  braces_by false c k bs t e w h = goes_then (restart brace (expr c t) (expr_dash c t e) (h k bs (inline false []) ready_inline w)) (λ u n. brace_ends (ends_open t) u w n)
+  braces_by : (v : Bool) (c k : ℕ) (bs : List Block) (t : Tree) → begins_negative t ≡ v → Within c k bs → Expression c t
+      → Goes (at brace (inline false []) bs k) (cond v (blank ∷ []) [] ++ (expr c t ++ (broken_words c (ends_open t) ++ key (codes "}") ∷ []))) (Stands true k bs)
+  braces_by true c k bs t e w h =
+      steps a_blank (goes_then (h k bs (inline false []) ready_inline w) (λ u n. brace_ends (ends_open t) u w n))
+  braces_by false c k bs t e w h =
+      goes_then (restart brace (expr c t) (expr_dash c t e) (h k bs (inline false []) ready_inline w))
+      (λ u n. brace_ends (ends_open t) u w n)
 
-  braced_goes : (c k : ℕ) (bs : List Block) (l : Left) (t : Tree) → Blanked l → Within c k bs → Expression c t → Goes (at l (inline false []) bs k) (braced c t (expr c t)) (Stands true k bs)
-  braced_goes c k bs l t i w h = keyed brace_sign ready_inline (blanked_follows l (sign (codes "{")) i refl) (braces_by (begins_negative t) c k bs t refl w h)
+  braced_goes : (c k : ℕ) (bs : List Block) (l : Left) (t : Tree) → Blanked l → Within c k bs → Expression c t
+      → Goes (at l (inline false []) bs k) (braced c t (expr c t)) (Stands true k bs)
+  braced_goes c k bs l t i w h =
+      keyed brace_sign ready_inline (blanked_follows l (sign (codes "{")) i refl) (braces_by (begins_negative t) c k bs t refl w h)
 
   app_open : (t : Tree) → is_app t ≡ true → ends_open t ≡ false
   app_open (name n) e = refl
@@ -382,60 +421,77 @@ module _ (pass : Pass) where
   shut_stands : {b : Bool} {c k : ℕ} {bs : List Block} (u : State) → b ≡ false → Ends c k bs b u → Stands false k bs u
   shut_stands u e (ends l shut o d n) = rw (n e) (stands l o)
 
-  app_domain : (v : Bool) (c k : ℕ) (bs : List Block) (m : Mode) (t : Tree) → is_app t ≡ v → Ready m → Within c k bs → Expression c t → Goes (at free m bs k) (bracketed v (expr c t)) (Stands false k bs)
+  app_domain : (v : Bool) (c k : ℕ) (bs : List Block) (m : Mode) (t : Tree) → is_app t ≡ v → Ready m → Within c k bs → Expression c t
+      → Goes (at free m bs k) (bracketed v (expr c t)) (Stands false k bs)
   app_domain true c k bs m t e r w h = goes_wider (h k bs m r w) (λ u n. shut_stands u (app_open t e) n)
-  app_domain false c k bs m t e r w h = goes_wider (bracketed_goes w r (h (suc k) bs (inline false []) ready_inline (within_more w))) (atom_ends false)
+  app_domain false c k bs m t e r w h =
+      goes_wider (bracketed_goes w r (h (suc k) bs (inline false []) ready_inline (within_more w))) (atom_ends false)
 
-  domain_by : (v : Bool) (c k : ℕ) (bs : List Block) (m : Mode) (q : Mult) (n : List ℕ) (t : Tree) → Fit (named n) → Ready m → Within c k bs → Expression c t → Goes (at free m bs k) (cond v (bracketed (is_app t) (expr c t)) (in_brackets (binding q n (expr c t)))) (Stands false k bs)
+  domain_by : (v : Bool) (c k : ℕ) (bs : List Block) (m : Mode) (q : Mult) (n : List ℕ) (t : Tree) → Fit (named n) → Ready m
+      → Within c k bs → Expression c t
+      → Goes (at free m bs k) (cond v (bracketed (is_app t) (expr c t)) (in_brackets (binding q n (expr c t)))) (Stands false k bs)
   domain_by true c k bs m q n t f r w h = app_domain (is_app t) c k bs m t refl r w h
-  domain_by false c k bs m q n t f r w h = goes_wider (bracketed_goes w r (binding_goes q n ready_inline f (h (suc k) bs (inline false []) ready_inline (within_more w)))) (atom_ends false)
+  domain_by false c k bs m q n t f r w h =
+      goes_wider (bracketed_goes w r (binding_goes q n ready_inline f (h (suc k) bs (inline false []) ready_inline (within_more w))))
+      (atom_ends false)
 
   -- "->" and what stands behind it
-  pub arrow_goes : {b : Bool} {c k : ℕ} {bs : List Block} (t : Tree) (u : State) → Stands b k bs u → Within c k bs → Expression c t → Goes u (blank ∷ key (codes "->") ∷ blank ∷ expr c t) (Ends c k bs (ends_open t))
-  arrow_goes {b} {c} {k} {bs} t u (stands l f) w h = steps a_blank (keyed arrow_sign ready_inline (blanked_follows (spaced l) (sign (codes "->")) (blanked_of l (fine_loose b l f)) refl) (steps a_blank (h k bs (inline false []) ready_inline w)))
+  pub arrow_goes : {b : Bool} {c k : ℕ} {bs : List Block} (t : Tree) (u : State) → Stands b k bs u → Within c k bs → Expression c t
+      → Goes u (blank ∷ key (codes "->") ∷ blank ∷ expr c t) (Ends c k bs (ends_open t))
+  arrow_goes {b} {c} {k} {bs} t u (stands l f) w h =
+      steps a_blank
+      (keyed arrow_sign ready_inline (blanked_follows (spaced l) (sign (codes "->")) (blanked_of l (fine_loose b l f)) refl) (steps a_blank
+      (h k bs (inline false []) ready_inline w)))
 
   -- a symbol behind a blank or a new line, and what stands behind it
-  resumed_then : {b : Left} {s : List ℕ} {k : ℕ} {bs : List Block} {ps : List Printed} {R : State → Type 0} (u : State) → Sign s b role.Plain → Resumes k bs u → Goes (at b (inline false []) bs k) ps R → Goes u (key s ∷ ps) R
+  resumed_then : {b : Left} {s : List ℕ} {k : ℕ} {bs : List Block} {ps : List Printed} {R : State → Type 0} (u : State)
+      → Sign s b role.Plain → Resumes k bs u → Goes (at b (inline false []) bs k) ps R → Goes u (key s ∷ ps) R
   resumed_then {s} u i (resumed l m r a) g = keyed i r (blanked_follows l (sign s) a refl) g
 
-  let_head_goes : (c k : ℕ) (bs : List Block) (md : Mode) (m : Mult) (n : List ℕ) (b : Bool) (ts : List Printed) (e : Tree) → Fit (named n) → Ready md → Within c k bs → Goes (at wordy (inline false []) bs k) ts (Ends c k bs b) → Expression c e → Goes (at free md bs k) (let_head c m n b ts (expr c e)) (Ends c k bs (ends_open e))
+  let_head_goes : (c k : ℕ) (bs : List Block) (md : Mode) (m : Mult) (n : List ℕ) (b : Bool) (ts : List Printed) (e : Tree) → Fit (named n)
+      → Ready md → Within c k bs → Goes (at wordy (inline false []) bs k) ts (Ends c k bs b) → Expression c e
+      → Goes (at free md bs k) (let_head c m n b ts (expr c e)) (Ends c k bs (ends_open e))
   let_head_goes c k bs md m n b ts e f r w g h =
-      goes_then {R = λ u. Goes u ts (Ends c k bs b)} (keyed let_sign r tt (steps a_blank (marked_goes m ready_inline (λ q y. name_then f y (stays g)))))
-      (λ u t. goes_then t (λ v x. goes_then (parted_goes b v w x) (λ z y. resumed_then z equals_sign y (steps a_blank (h k bs (inline false []) ready_inline w)))))
+      goes_then {R = λ u. Goes u ts (Ends c k bs b)}
+      (keyed let_sign r tt (steps a_blank (marked_goes m ready_inline (λ q y. name_then f y (stays g)))))
+      (λ u t. goes_then t (λ v x. goes_then (parted_goes b v w x) (λ z y. resumed_then z equals_sign y (steps a_blank (h k bs
+      (inline false []) ready_inline w)))))
 
   -- behind something where anything may follow
   data Clear (k : ℕ) (bs : List Block) : State → Type 0 where
     clear : Clear k bs (at free (inline false []) bs k)
 
-  blank_clears : {k : ℕ} {bs : List Block} (u : State) → Stands true k bs u → Goes u (blank ∷ []) (Clear k bs)
-  blank_clears u (stands l untyped_free) = steps a_blank (stays clear)
-  blank_clears u (stands l untyped_wordy) = steps a_blank (stays clear)
-
-  pub blank_then : {k : ℕ} {bs : List Block} {ps : List Printed} {R : State → Type 0} (u : State) → Stands true k bs u → Goes (at free (inline false []) bs k) ps R → Goes u (blank ∷ ps) R
+  pub blank_then : {k : ℕ} {bs : List Block} {ps : List Printed} {R : State → Type 0} (u : State) → Stands true k bs u
+      → Goes (at free (inline false []) bs k) ps R → Goes u (blank ∷ ps) R
   blank_then u (stands l untyped_free) g = steps a_blank g
   blank_then u (stands l untyped_wordy) g = steps a_blank g
 
-  clear_then : {k : ℕ} {bs : List Block} {ps : List Printed} {R : State → Type 0} (u : State) → Clear k bs u → Goes (at free (inline false []) bs k) ps R → Goes u ps R
+  clear_then : {k : ℕ} {bs : List Block} {ps : List Printed} {R : State → Type 0} (u : State) → Clear k bs u
+      → Goes (at free (inline false []) bs k) ps R → Goes u ps R
   clear_then u clear g = g
 
   -- the block of a `do`, and what closes it
-  block_of : ℕ → ℕ → List Block → List Block
-  block_of c k bs = bs ++ block_at (c + 2 + 1) k ∷ []
-
   within_block : (c k : ℕ) (bs : List Block) → Within (c + 2) k (bs ++ block_at (c + 2 + 1) k ∷ [])
   within_block c k bs = record { others = bs; newest = block_at (c + 2 + 1) k; are = refl; col = refl; brackets = omega arith }
 
-  block_closes : (c k : ℕ) (bs : List Block) (b : Bool) (u : State) → Ends (c + 2) k (bs ++ block_at (c + 2 + 1) k ∷ []) b u → Goes u (closed ∷ []) (Ends c k bs true)
-  block_closes c k bs b u (ends l shut o d n) = steps (shuts refl) (stays (ends l (block_at (c + 2 + 1) k ∷ shut) o ((omega arith, omega arith), deep_outside c k shut d) (λ e. absurd cc)))
+  block_closes : (c k : ℕ) (bs : List Block) (b : Bool) (u : State) → Ends (c + 2) k (bs ++ block_at (c + 2 + 1) k ∷ []) b u
+      → Goes u (closed ∷ []) (Ends c k bs true)
+  block_closes c k bs b u (ends l shut o d n) =
+      steps (shuts refl)
+      (stays (ends l (block_at (c + 2 + 1) k ∷ shut) o ((omega arith, omega arith), deep_outside c k shut d) (λ e. absurd cc)))
 
-  pub item_begins : {b : Bool} {c k : ℕ} {bs : List Block} {ps : List Printed} {R : State → Type 0} (u : State) → Within c k bs → Ends c k bs b u → Goes (at free fresh bs k) ps R → Goes u (next ∷ line c ∷ ps) R
-  item_begins u w (ends l shut o d n) g = steps ends_item (steps (begins_item (each_wider shut (λ x e. omega (arith, e.0)) d) (under_same w)) g)
+  pub item_begins : {b : Bool} {c k : ℕ} {bs : List Block} {ps : List Printed} {R : State → Type 0} (u : State) → Within c k bs
+      → Ends c k bs b u → Goes (at free fresh bs k) ps R → Goes u (next ∷ line c ∷ ps) R
+  item_begins u w (ends l shut o d n) g =
+      steps ends_item (steps (begins_item (each_wider shut (λ x e. omega (arith, e.0)) d) (under_same w)) g)
 
-  statement_formed : (n : ℕ) (t : Statement) (rest : Statements) → formed.Statements_formed Fit pass n (statement_and t rest) → formed.Statement_formed Fit pass t
+  statement_formed : (n : ℕ) (t : Statement) (rest : Statements) → formed.Statements_formed Fit pass n (statement_and t rest)
+      → formed.Statement_formed Fit pass t
   statement_formed n t no_statement f = f.0
   statement_formed n t (statement_and u rest) f = f.0
 
-  second_atom : (c k : ℕ) (bs : List Block) (e : Tree) (u : State) → Stands (is_number e) k bs u → F e → Within c k bs → Expression c e → Goes u (blank ∷ atom false e (expr c e)) (Ends c k bs false)
+  second_atom : (c k : ℕ) (bs : List Block) (e : Tree) (u : State) → Stands (is_number e) k bs u → F e → Within c k bs → Expression c e
+      → Goes u (blank ∷ atom false e (expr c e)) (Ends c k bs false)
   second_atom c k bs e u (stands l x) f w h = steps a_blank (goes_wider (next_atom false c k bs l e x f w h) stand_ends)
 
   -- ---- expressions
@@ -448,52 +504,88 @@ module _ (pass : Pass) where
     expr_goes c (universe i is s) f k bs m r w = goes_wider (level_goes false (nat_eq i 0) i refl refl f.1 r) stand_ends
     expr_goes c (hole n s) f k bs m r w = steps (plain_word r (a_hole f) tt) (stays (ends wordy [] loose_wordy tt (λ e. refl)))
     expr_goes c (the t e s) f k bs m r w =
-        keyed the_sign r tt (steps a_blank (goes_then (atom_goes (is_number e) c k bs (inline false []) t f.0.0 ready_inline w (expr_goes c t f.0.0)) (λ u x. second_atom c k bs e u x f.1.0 w (expr_goes c e f.1.0))))
+        keyed the_sign r tt
+        (steps a_blank (goes_then (atom_goes (is_number e) c k bs (inline false []) t f.0.0 ready_inline w (expr_goes c t f.0.0))
+        (λ u x. second_atom c k bs e u x f.1.0 w (expr_goes c e f.1.0))))
     expr_goes c (apply g args s) f k bs m r w =
-        goes_then (atom_goes (number_first args) c k bs m g f.0.0 r w (expr_goes c g f.0.0)) (λ u x. goes_wider (arguments_go c args (formed.is_named g) f.1.1 k bs w u x) stand_ends)
+        goes_then (atom_goes (number_first args) c k bs m g f.0.0 r w (expr_goes c g f.0.0))
+        (λ u x. goes_wider (arguments_go c args (formed.is_named g) f.1.1 k bs w u x) stand_ends)
     expr_goes c (pi Written q n a b s) f k bs m r w =
-        goes_then (domain_by (is_arrow Written q n) c k bs m q n a f.0.1 r w (expr_goes c a f.1.0.0)) (λ u x. arrow_goes b u x w (expr_goes c b f.1.1.0))
+        goes_then (domain_by (is_arrow Written q n) c k bs m q n a f.0.1 r w (expr_goes c a f.1.0.0))
+        (λ u x. arrow_goes b u x w (expr_goes c b f.1.1.0))
     expr_goes c (pi Braced q n a b s) f k bs m r w = absurd f
     expr_goes c (pi Inserted q n a b s) f k bs m r w = absurd f
     expr_goes c (lambda ps t s) f k bs m r w =
-        keyed backslash_sign r tt (goes_then (binders_go c ps f.1.0 k bs w) (λ u x. clear_then u x (keyed fat_arrow_sign ready_inline tt (steps a_blank (expr_goes c t f.1.1 k bs (inline false []) ready_inline w)))))
+        keyed backslash_sign r tt
+        (goes_then (binders_go c ps f.1.0 k bs w) (λ u x. clear_then u x (keyed fat_arrow_sign ready_inline tt (steps a_blank
+        (expr_goes c t f.1.1 k bs (inline false []) ready_inline w)))))
     expr_goes c (letting q n t e b s) f k bs m r w =
-        goes_then (let_head_goes c k bs m q n.name (annotation_open t) (annotation c t) e f.0.1 r w (annotation_goes c t f.1.0 k bs w) (expr_goes c e f.1.1.0.0))
-        (λ u x. goes_then (parted_goes (ends_open e) u w x) (λ v y. resumed_then v in_sign y (steps a_blank (expr_goes c b f.1.1.1 k bs (inline false []) ready_inline w))))
+        goes_then
+        (let_head_goes c k bs m q n.name (annotation_open t) (annotation c t) e f.0.1 r w (annotation_goes c t f.1.0 k bs w)
+        (expr_goes c e f.1.1.0.0))
+        (λ u x. goes_then (parted_goes (ends_open e) u w x) (λ v y. resumed_then v in_sign y (steps a_blank (expr_goes c b f.1.1.1 k bs
+        (inline false []) ready_inline w))))
     expr_goes c (doing ss s) f k bs m r w =
-        steps (opener_word r (a_sign do_sign) tt) (steps opens (goes_then (statements_go c ss f k bs w) (λ u x. block_closes c k bs true u x)))
+        steps (opener_word r (a_sign do_sign) tt)
+        (steps opens (goes_then (statements_go c ss f k bs w) (λ u x. block_closes c k bs true u x)))
 
-    annotation_goes : (c : ℕ) (t : Annotation) → formed.Annotation_formed Fit pass t → (k : ℕ) (bs : List Block) → Within c k bs → Goes (at wordy (inline false []) bs k) (annotation c t) (Ends c k bs (annotation_open t))
+    annotation_goes : (c : ℕ) (t : Annotation) → formed.Annotation_formed Fit pass t → (k : ℕ) (bs : List Block) → Within c k bs
+        → Goes (at wordy (inline false []) bs k) (annotation c t) (Ends c k bs (annotation_open t))
     annotation_goes c untyped f k bs w = stays (ends wordy [] loose_wordy tt (λ e. refl))
-    annotation_goes c (annotated t) f k bs w = steps a_blank (keyed colon_sign ready_inline tt (steps a_blank (expr_goes c t f.0 k bs (inline false []) ready_inline w)))
+    annotation_goes c (annotated t) f k bs w =
+        steps a_blank (keyed colon_sign ready_inline tt (steps a_blank (expr_goes c t f.0 k bs (inline false []) ready_inline w)))
 
-    arguments_go : (c : ℕ) (args : Arguments) (i : Bool) → formed.Arguments_formed Fit pass i args → (k : ℕ) (bs : List Block) → Within c k bs → (u : State) → Stands (number_first args) k bs u → Goes u (arguments c args) (Stands false k bs)
+    arguments_go : (c : ℕ) (args : Arguments) (i : Bool) → formed.Arguments_formed Fit pass i args → (k : ℕ) (bs : List Block)
+        → Within c k bs → (u : State) → Stands (number_first args) k bs u → Goes u (arguments c args) (Stands false k bs)
     arguments_go c no_argument i f k bs w u x = stays x
     arguments_go c (argument_and (argument Written t) more) i f k bs w u (stands l x) =
-        steps a_blank (goes_then (next_atom (number_first more) c k bs l t x f.0.0 w (expr_goes c t f.0.0)) (λ v y. arguments_go c more false f.1 k bs w v y))
+        steps a_blank
+        (goes_then (next_atom (number_first more) c k bs l t x f.0.0 w (expr_goes c t f.0.0))
+        (λ v y. arguments_go c more false f.1 k bs w v y))
     arguments_go c (argument_and (argument Braced t) more) i f k bs w u (stands l x) =
-        steps a_blank (goes_then (braced_goes c k bs (spaced l) t (blanked_of l x) w (expr_goes c t f.1.0.0)) (λ v y. arguments_go c more i f.1.1 k bs w v (atom_ends (number_first more) v y)))
+        steps a_blank
+        (goes_then (braced_goes c k bs (spaced l) t (blanked_of l x) w (expr_goes c t f.1.0.0)) (λ v y. arguments_go c more i f.1.1 k bs w v
+        (atom_ends (number_first more) v y)))
     arguments_go c (argument_and (argument Inserted t) more) i f k bs w u x = absurd f
 
-    binders_go : (c : ℕ) (ps : Binders) → formed.Binders_formed Fit pass ps → (k : ℕ) (bs : List Block) → Within c k bs → Goes (at free (inline false []) bs k) (binders c ps) (Clear k bs)
+    binders_go : (c : ℕ) (ps : Binders) → formed.Binders_formed Fit pass ps → (k : ℕ) (bs : List Block) → Within c k bs
+        → Goes (at free (inline false []) bs k) (binders c ps) (Clear k bs)
     binders_go c no_binder f k bs w = stays clear
-    binders_go c (binder_and b more) f k bs w = goes_then (binder_goes c b f.0 k bs w) (λ u x. blank_then u x (binders_go c more f.1 k bs w))
+    binders_go c (binder_and b more) f k bs w =
+        goes_then (binder_goes c b f.0 k bs w) (λ u x. blank_then u x (binders_go c more f.1 k bs w))
 
-    binder_goes : (c : ℕ) (b : Binder) → formed.Binder_formed Fit pass b → (k : ℕ) (bs : List Block) → Within c k bs → Goes (at free (inline false []) bs k) (binder c b) (Stands true k bs)
+    binder_goes : (c : ℕ) (b : Binder) → formed.Binder_formed Fit pass b → (k : ℕ) (bs : List Block) → Within c k bs
+        → Goes (at free (inline false []) bs k) (binder c b) (Stands true k bs)
     binder_goes c (plain n) f k bs w = name_then f.1 ready_inline (stays (stands wordy untyped_wordy))
-    binder_goes c (typed_binder q n t s) f k bs w = bracketed_goes w ready_inline (binding_goes q n.name ready_inline f.0.1 (expr_goes c t f.1.0 (suc k) bs (inline false []) ready_inline (within_more w)))
+    binder_goes c (typed_binder q n t s) f k bs w =
+        bracketed_goes w ready_inline
+        (binding_goes q n.name ready_inline f.0.1 (expr_goes c t f.1.0 (suc k) bs (inline false []) ready_inline (within_more w)))
 
-    statements_go : (c : ℕ) (ss : Statements) → formed.Statements_formed Fit pass 1 ss → (k : ℕ) (bs : List Block) → Within c k bs → Goes (at wordy opening bs k) (statements (c + 2) ss) (Ends (c + 2) k (bs ++ block_at (c + 2 + 1) k ∷ []) true)
+    statements_go : (c : ℕ) (ss : Statements) → formed.Statements_formed Fit pass 1 ss → (k : ℕ) (bs : List Block) → Within c k bs
+        → Goes (at wordy opening bs k) (statements (c + 2) ss) (Ends (c + 2) k (bs ++ block_at (c + 2 + 1) k ∷ []) true)
     statements_go c no_statement f k bs w = absurd f
     statements_go c (statement_and s more) f k bs w =
-        steps (indents (under_deeper w)) (goes_then (statement_goes (c + 2) s (statement_formed 1 s more f) k (bs ++ block_at (c + 2 + 1) k ∷ []) (within_block c k bs)) (λ u x. more_go (c + 2) 1 s more f k (bs ++ block_at (c + 2 + 1) k ∷ []) (within_block c k bs) u x))
+        steps (indents (under_deeper w))
+        (goes_then (statement_goes (c + 2) s (statement_formed 1 s more f) k (bs ++ block_at (c + 2 + 1) k ∷ []) (within_block c k bs))
+        (λ u x. more_go (c + 2) 1 s more f k (bs ++ block_at (c + 2 + 1) k ∷ []) (within_block c k bs) u x))
 
-    more_go : (c n : ℕ) (s : Statement) (more : Statements) → formed.Statements_formed Fit pass n (statement_and s more) → (k : ℕ) (bs : List Block) → Within c k bs → (u : State) → Ends c k bs true u → Goes u (more_statements c more) (Ends c k bs true)
+    more_go : (c n : ℕ) (s : Statement) (more : Statements) → formed.Statements_formed Fit pass n (statement_and s more)
+        → (k : ℕ) (bs : List Block) → Within c k bs → (u : State) → Ends c k bs true u → Goes u (more_statements c more) (Ends c k bs true)
     more_go c n s no_statement f k bs w u x = stays x
     more_go c n s (statement_and t rest) f k bs w u x =
-        item_begins u w x (goes_then (statement_goes c t (statement_formed (suc n) t rest f.1.1.1) k bs w) (λ v y. more_go c (suc n) t rest f.1.1.1 k bs w v y))
+        item_begins u w x
+        (goes_then (statement_goes c t (statement_formed (suc n) t rest f.1.1.1) k bs w) (λ v y. more_go c
+        (suc n) t rest f.1.1.1 k bs w v y))
 
-    statement_goes : (c : ℕ) (s : Statement) → formed.Statement_formed Fit pass s → (k : ℕ) (bs : List Block) → Within c k bs → Goes (at free fresh bs k) (statement c s) (Ends c k bs true)
-    statement_goes c (bind n e) f k bs w = name_then f.0.1 ready_fresh (steps a_blank (keyed left_arrow_sign ready_inline tt (steps a_blank (goes_wider (expr_goes c e f.1.0 k bs (inline false []) ready_inline w) looser))))
-    statement_goes c (local q n t e s) f k bs w = goes_wider (let_head_goes c k bs fresh q n.name (annotation_open t) (annotation c t) e f.0.1 ready_fresh w (annotation_goes c t f.1.0 k bs w) (expr_goes c e f.1.1.0)) looser
+    statement_goes : (c : ℕ) (s : Statement) → formed.Statement_formed Fit pass s → (k : ℕ) (bs : List Block) → Within c k bs
+        → Goes (at free fresh bs k) (statement c s) (Ends c k bs true)
+    statement_goes c (bind n e) f k bs w =
+        name_then f.0.1 ready_fresh
+        (steps a_blank (keyed left_arrow_sign ready_inline tt (steps a_blank (goes_wider (expr_goes c e f.1.0 k bs
+        (inline false []) ready_inline w) looser))))
+    statement_goes c (local q n t e s) f k bs w =
+        goes_wider
+        (let_head_goes c k bs fresh q n.name (annotation_open t) (annotation c t) e f.0.1 ready_fresh w (annotation_goes c t f.1.0 k bs w)
+        (expr_goes c e f.1.1.0))
+        looser
     statement_goes c (run e s) f k bs w = goes_wider (expr_goes c e f k bs fresh ready_fresh w) looser
