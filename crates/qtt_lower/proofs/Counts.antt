@@ -11,11 +11,11 @@ use Rattle.qtt_erase.specs.Operator.{Operator}
 use Rattle.qtt_erase.specs.Lean.{Abstraction, Lean, Leans, binders, body_binders}
 use Rattle.qtt_erase.specs.Erasure.{Slots}
 use Rattle.qtt_closure.specs.Flat.{Function}
-use Rattle.qtt_closure.specs.Conversion.{after, afters, skip, waiting, bound, captures, other, flat, flats, first_or_type, own_function, functions, evaluated_functions, waiting_functions}
+use Rattle.qtt_closure.specs.Conversion.{after, afters, skip, waiting, bound, captures, conversion, other, flat, flats, first_or_type, own_function, functions, evaluated_functions, waiting_functions}
 use Rattle.qtt_closure.proofs.Starting.{advance, after-from, number-after}
 use Rattle.qtt_code.specs.Instruction.{Position}
 use Rattle.qtt_lower.specs.Lowering.{branches, branch_count, own_width, join_width, width, widths, branch_widths, block, blocks}
-use Rattle.qtt_lower.specs.Programs.{Body, flat_functions, numbers_end, lowered, program_from, code_length, instructions}
+use Rattle.qtt_lower.specs.Programs.{Body, numbers_end, lowered, program_from, code_length, instructions}
 use Rattle.qtt_lower.specs.Sizes.{body_width}
 use Rattle.qtt_lower.proofs.Parts.{code-length}
 
@@ -28,10 +28,10 @@ function-count : (n : ℕ) (Γ : Slots) (t : Lean) → length (functions n Γ t)
 function-count n Γ t = let p = advanced (functions n Γ t) n in let q = number-after t n Γ in let r = after-from t n in omega (arith, p, q, r)
 
 -- so many numbers are taken
-pub numbers-taken : (n : ℕ) (t : Lean) → numbers_end n t ≡ n + length (flat_functions 0 t)
+pub numbers-taken : (n : ℕ) (t : Lean) → numbers_end n t ≡ n + length (conversion 0 t)
 numbers-taken n t = let p = function-count 1 [] t in let q = after-from t (suc n) in omega (arith, p, q)
 
-flat-count : (n : ℕ) (t : Lean) → length (flat_functions n t) ≡ length (flat_functions 0 t)
+flat-count : (n : ℕ) (t : Lean) → length (conversion n t) ≡ length (conversion 0 t)
 flat-count n t = let p = function-count (suc n) [] t in let q = function-count 1 [] t in omega (arith, p, q)
 
 -- ---- instructions: whatever number the first function has
@@ -101,7 +101,7 @@ mutual
       (functions m (bound (first ns) Γ) t) (waiting_functions (after m t) k (rest ns) Γ ts)
       (total-any t n m (bound (first ns) Γ)) (waiting-any ts (after n t) (after m t) k (rest ns) Γ)
 
-flat-total : (n : ℕ) (t : Lean) → total (flat_functions n t) ≡ total (flat_functions 0 t)
+flat-total : (n : ℕ) (t : Lean) → total (conversion n t) ≡ total (conversion 0 t)
 flat-total n t =
     sum_by-cons body_width (record { captured = 0; takes = 0; body = flat (suc n) [] t }) (functions (suc n) [] t)
     ∙ ap₂ ◌+◌ (width-any t Position.tail (suc n) 1 []) (total-any t (suc n) 1 [])
@@ -109,16 +109,16 @@ flat-total n t =
 
 -- ---- of a program
 abbrev pub body_blocks : Body → ℕ
-body_blocks b = length (flat_functions 0 b.term)
+body_blocks b = length (conversion 0 b.term)
 
 abbrev pub body_instructions : Body → ℕ
-body_instructions b = sum_by body_width (flat_functions 0 b.term)
+body_instructions b = sum_by body_width (conversion 0 b.term)
 
 pub program-blocks : (e : GlobalId → ℕ) (n : ℕ) (bs : List Body) → length (program_from e n bs) ≡ sum_by body_blocks bs
 program-blocks e n [] = refl
 program-blocks e n (b ∷ bs) =
     length-append (lowered e n b) (program_from e (numbers_end n b.term) bs)
-    ∙ ap₂ ◌+◌ (length-map (flat_functions n b.term) (block e b.id) ∙ flat-count n b.term) (program-blocks e (numbers_end n b.term) bs)
+    ∙ ap₂ ◌+◌ (length-map (conversion n b.term) (block e b.id) ∙ flat-count n b.term) (program-blocks e (numbers_end n b.term) bs)
     ∙ sym (sum_by-cons body_blocks b bs)
 
 block-codes : (e : GlobalId → ℕ) (d : GlobalId) (Fs : List Function) → instructions (blocks e d Fs) ≡ total Fs
@@ -131,5 +131,5 @@ pub program-instructions : (e : GlobalId → ℕ) (n : ℕ) (bs : List Body) →
 program-instructions e n [] = refl
 program-instructions e n (b ∷ bs) =
     sum_by-append code_length (lowered e n b) (program_from e (numbers_end n b.term) bs)
-    ∙ ap₂ ◌+◌ (block-codes e b.id (flat_functions n b.term) ∙ flat-total n b.term) (program-instructions e (numbers_end n b.term) bs)
+    ∙ ap₂ ◌+◌ (block-codes e b.id (conversion n b.term) ∙ flat-total n b.term) (program-instructions e (numbers_end n b.term) bs)
     ∙ sym (sum_by-cons body_instructions b bs)

@@ -15,7 +15,8 @@ use Rattle.qtt_erase.specs.Lean.{Lean}
 use Rattle.qtt_erase.specs.Erasure.{erased_bodies}
 use Rattle.qtt_base.specs.declared.limits.Quantity.TheVariants.{Blocks, Instructions}
 use Rattle.qtt_lower.specs.declared.program.LowerError.TheVariants.{Limit}
-use Rattle.qtt_lower.specs.Programs.{Base, base_id, with_body, bodies, bases_from, bases, program, entry, block_of, flat_functions, numbers_end, lowered, program_from}
+use Rattle.qtt_closure.specs.Conversion.{conversion}
+use Rattle.qtt_lower.specs.Programs.{Base, base_id, with_body, bodies, bases_from, bases, program, entry, block_of, numbers_end, lowered, program_from}
 use Rattle.qtt_lower.specs.Sizes.{block_count, instruction_count, capped, blocks_of}
 use Rattle.qtt_lower.specs.Compiled.{excess, excess_of, sized, total_blocks, total_instructions, firsts_from, blocks_in_turn}
 use Rattle.qtt_lower.specs.View.{base_list}
@@ -104,13 +105,13 @@ module _ (E : Env) where
           base_list (put (capped standard.blocks (block_count (erased_bodies E d)))) ≡ bases_from n (with_body d o (bodies E ds))
       by_body later None e = ap (λ o. base_list (put (capped standard.blocks (block_count o)))) e ∙ later n
       by_body later (Some t) e =
-          let few : capped standard.blocks (block_count (erased_bodies E d)) ≡ length (flat_functions 0 t) =
+          let few : capped standard.blocks (block_count (erased_bodies E d)) ≡ length (conversion 0 t) =
           small standard.blocks (block_count (erased_bodies E d)) (total_blocks (map (sized E) ds)) h ∙ ap block_count e in
           ap (λ s. base_list (put s)) few
-          ∙ ap (λ b. base_list (cond b (firsts_from n (map (sized E) ds)) ((d, n) ∷ firsts_from (n + length (flat_functions 0 t)) (map (sized E) ds))))
-          (ne_eqb (length (flat_functions 0 t)) 0 (λ z. omega arith))
+          ∙ ap (λ b. base_list (cond b (firsts_from n (map (sized E) ds)) ((d, n) ∷ firsts_from (n + length (conversion 0 t)) (map (sized E) ds))))
+          (ne_eqb (length (conversion 0 t)) 0 (λ z. omega arith))
           ∙ ap (λ bs. record { id = d; block = n } ∷ bs)
-          (later (n + length (flat_functions 0 t)) ∙ ap (λ m. bases_from m (bodies E ds)) (sym (numbers-taken n t)))
+          (later (n + length (conversion 0 t)) ∙ ap (λ m. bases_from m (bodies E ds)) (sym (numbers-taken n t)))
 
 -- ---- blocks
 -- numbers that agree at these definitions

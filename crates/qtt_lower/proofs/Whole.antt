@@ -14,15 +14,14 @@ use Rattle.qtt_erase.specs.Lean.{Lean}
 use Rattle.qtt_erase.specs.Erasure.{erased_bodies}
 use Rattle.qtt_closure.specs.Flat as flat
 use Rattle.qtt_closure.specs.Flat.{FlatTerm, Function}
-use Rattle.qtt_closure.specs.Conversion.{functions}
-use Rattle.qtt_closure.specs.Conversion as conversion
+use Rattle.qtt_closure.specs.Conversion.{conversion, flat as flat_term, functions}
 use Rattle.qtt_closure.specs.StandsFor.{Holds, IsConversion}
 use Rattle.qtt_closure.proofs.Starting.{advance, number-after, Scoped, mentioned-below}
 use Rattle.qtt_code.specs.Instruction.{Program}
 use Rattle.qtt_lower.specs.Lowering.{block}
 use Rattle.qtt_lower.specs.Lowerable.{Lowerable, IsBlock}
 use Rattle.qtt_lower.specs.Source.{IsSource}
-use Rattle.qtt_lower.specs.Programs.{Body, with_body, bodies, flat_functions, numbers_end, functions_from, flat_program, lean_bodies, flat_bodies_from, base_id, block_of, bases_from, bases, entry, lowered, program_from, program}
+use Rattle.qtt_lower.specs.Programs.{Body, with_body, bodies, numbers_end, functions_from, flat_program, lean_bodies, flat_bodies_from, base_id, block_of, bases_from, bases, entry, lowered, program_from, program}
 use Rattle.qtt_lower.specs.Laws.{AreSources, ProgramsAreLowered}
 use Rattle.qtt_lower.proofs.Values.{in-first, in-second}
 use Rattle.qtt_lower.proofs.Erased.{bodies-are-sources}
@@ -33,7 +32,7 @@ advance-length : (n : ℕ) (Fs : List Function) → advance n Fs ≡ n + length 
 advance-length n [] = omega arith
 advance-length n (F ∷ Fs) = let h = advance-length (suc n) Fs in omega (arith, h)
 
-functions-end : (n : ℕ) (t : Lean) → n + length (flat_functions n t) ≡ numbers_end n t
+functions-end : (n : ℕ) (t : Lean) → n + length (conversion n t) ≡ numbers_end n t
 functions-end n t =
     let h = number-after t (suc n) [] in
     let k = advance-length (suc n) (functions (suc n) [] t) in
@@ -78,7 +77,7 @@ lowerable-at (G ∷ Fs) h (suc k) F e = lowerable-at Fs h.1 k F e
 source-scoped : (t : Lean) → IsSource t → Scoped [] t
 source-scoped t s i e = let p = mentioned-below t 0 i s.closed e in absurd (omega arith)
 
-source-lowerable : (n : ℕ) (t : Lean) → IsSource t → AreLowerable (flat_functions n t)
+source-lowerable : (n : ℕ) (t : Lean) → IsSource t → AreLowerable (conversion n t)
 source-lowerable n t s = (
   flat-lowerable t (suc n) [] s.formed s.plain (source-scoped t s),
   functions-lowerable t (suc n) [] s.formed s.plain (source-scoped t s),
@@ -87,20 +86,20 @@ source-lowerable n t s = (
 module _ (e : GlobalId → ℕ) where
   blocks-of : (n : ℕ) (bs : List Body) → AreSources bs → (k : ℕ) (F : Function) → slice_get (functions_from n bs) k ≡ Some F → IsBlock e (program_from e n bs) k F
   blocks-of n [] s k F h = absurd (cc h)
-  blocks-of n (b ∷ bs) s k F h = elim (cases_lt k (length (flat_functions n b.term))) [
+  blocks-of n (b ∷ bs) s k F h = elim (cases_lt k (length (conversion n b.term))) [
     | inl p ↦
-        let f = sym (in-first (flat_functions n b.term) (functions_from (numbers_end n b.term) bs) k p) ∙ h in (
+        let f = sym (in-first (conversion n b.term) (functions_from (numbers_end n b.term) bs) k p) ∙ h in (
           b.id,
-          in-first (lowered e n b) (program_from e (numbers_end n b.term) bs) k (subst (λ m. k < m) (sym (length-map (flat_functions n b.term) (block e b.id))) p)
-              ∙ slice_get-map (block e b.id) (flat_functions n b.term) k ∙ ap (option_map (block e b.id)) f,
-          lowerable-at (flat_functions n b.term) (source-lowerable n b.term s.0) k F f,
+          in-first (lowered e n b) (program_from e (numbers_end n b.term) bs) k (subst (λ m. k < m) (sym (length-map (conversion n b.term) (block e b.id))) p)
+              ∙ slice_get-map (block e b.id) (conversion n b.term) k ∙ ap (option_map (block e b.id)) f,
+          lowerable-at (conversion n b.term) (source-lowerable n b.term s.0) k F f,
         )
     | inr q ↦
-        let f = sym (in-second (flat_functions n b.term) (functions_from (numbers_end n b.term) bs) k q) ∙ h in
-        let r = blocks-of (numbers_end n b.term) bs s.1 (k - length (flat_functions n b.term)) F f in (
+        let f = sym (in-second (conversion n b.term) (functions_from (numbers_end n b.term) bs) k q) ∙ h in
+        let r = blocks-of (numbers_end n b.term) bs s.1 (k - length (conversion n b.term)) F f in (
           r.0,
-          in-second (lowered e n b) (program_from e (numbers_end n b.term) bs) k (subst (λ m. m ≤ k) (sym (length-map (flat_functions n b.term) (block e b.id))) q)
-              ∙ ap (λ m. slice_get (program_from e (numbers_end n b.term) bs) (k - m)) (length-map (flat_functions n b.term) (block e b.id)) ∙ r.1,
+          in-second (lowered e n b) (program_from e (numbers_end n b.term) bs) k (subst (λ m. m ≤ k) (sym (length-map (conversion n b.term) (block e b.id))) q)
+              ∙ ap (λ m. slice_get (program_from e (numbers_end n b.term) bs) (k - m)) (length-map (conversion n b.term) (block e b.id)) ∙ r.1,
           r.2,
         )
   ]
@@ -117,9 +116,9 @@ module _ (e : GlobalId → ℕ) where
     where
       later : Has (slice_get C) (numbers_end n b.term) (program_from e (numbers_end n b.term) bs)
       later = has-right (slice_get C) n (numbers_end n b.term) (lowered e n b) (program_from e (numbers_end n b.term) bs)
-          (ap (λ m. n + m) (length-map (flat_functions n b.term) (block e b.id)) ∙ functions-end n b.term) h
+          (ap (λ m. n + m) (length-map (conversion n b.term) (block e b.id)) ∙ functions-end n b.term) h
 
-      own : IsDefined C (Some (conversion.flat (suc n) [] b.term)) n
+      own : IsDefined C (Some (flat_term (suc n) [] b.term)) n
       own = (
         b.id,
         ap (slice_get C) (let w : n ≡ n + 0 = omega arith in w) ∙ has-left (slice_get C) n (lowered e n b) (program_from e (numbers_end n b.term) bs) h 0 _ refl,
@@ -127,7 +126,7 @@ module _ (e : GlobalId → ℕ) where
       )
 
       tested : (x : Bool) → IsDefined C (flat_bodies_from (numbers_end n b.term) bs d) (block_of (with_id base_id d (bases_from (numbers_end n b.term) bs))) →
-          IsDefined C (cond x (Some (conversion.flat (suc n) [] b.term)) (flat_bodies_from (numbers_end n b.term) bs d))
+          IsDefined C (cond x (Some (flat_term (suc n) [] b.term)) (flat_bodies_from (numbers_end n b.term) bs d))
           (block_of (cond x (Some (record { id = b.id; block = n })) (with_id base_id d (bases_from (numbers_end n b.term) bs))))
       tested true r = own
       tested false r = r
@@ -138,16 +137,16 @@ conversions-of P n [] s h d = refl
 conversions-of P n (b ∷ bs) s h d = tested (same_id b.id d) (conversions-of P (numbers_end n b.term) bs s.1 later d)
   where
     later : Has P (numbers_end n b.term) (functions_from (numbers_end n b.term) bs)
-    later = has-right P n (numbers_end n b.term) (flat_functions n b.term) (functions_from (numbers_end n b.term) bs) (functions-end n b.term) h
+    later = has-right P n (numbers_end n b.term) (conversion n b.term) (functions_from (numbers_end n b.term) bs) (functions-end n b.term) h
 
-    here : Has P n (flat_functions n b.term)
-    here = has-left P n (flat_functions n b.term) (functions_from (numbers_end n b.term) bs) h
+    here : Has P n (conversion n b.term)
+    here = has-left P n (conversion n b.term) (functions_from (numbers_end n b.term) bs) h
 
     held : Holds P (suc n) (functions (suc n) [] b.term)
     held = has-holds P (suc n) (functions (suc n) [] b.term) (λ k x f. ap P (let w : suc n + k ≡ n + suc k = omega arith in w) ∙ here (suc k) x f)
 
     tested : (x : Bool) → IsConversion P (lean_bodies bs d) (flat_bodies_from (numbers_end n b.term) bs d) →
-        IsConversion P (cond x (Some b.term) (lean_bodies bs d)) (cond x (Some (conversion.flat (suc n) [] b.term)) (flat_bodies_from (numbers_end n b.term) bs d))
+        IsConversion P (cond x (Some b.term) (lean_bodies bs d)) (cond x (Some (flat_term (suc n) [] b.term)) (flat_bodies_from (numbers_end n b.term) bs d))
     tested true r = (suc n, refl, record { formed = s.0.formed; closed = s.0.closed; held = held })
     tested false r = r
 

@@ -9,7 +9,7 @@ use Rattle.qtt_erase.specs.Lean.{Abstraction, Lean}
 use Rattle.qtt_erase.specs.Erasure.{erased_bodies}
 use Rattle.qtt_closure.specs.Flat as flat
 use Rattle.qtt_closure.specs.Flat.{Closure, Function}
-use Rattle.qtt_closure.specs.Conversion.{after, flat as flat_term, functions}
+use Rattle.qtt_closure.specs.Conversion.{after, conversion, flat as flat_term}
 use Rattle.qtt_code.specs.Instruction.{Block, Program}
 use Rattle.qtt_lower.specs.Lowering.{blocks}
 
@@ -27,18 +27,15 @@ abbrev pub bodies : Env → List GlobalId → List Body
 bodies E [] = []
 bodies E (d ∷ ds) = with_body d (erased_bodies E d) (bodies E ds)
 
--- ---- one definition, whose functions have the numbers from n on
-abbrev pub flat_functions : ℕ → Lean → List Function
-flat_functions n t = record { captured = 0; takes = 0; body = flat_term (suc n) [] t } ∷ functions (suc n) [] t
-
--- the number behind them
+-- ---- the functions of definitions
+-- the number behind those of one definition, which have the numbers from n on
 abbrev pub numbers_end : ℕ → Lean → ℕ
 numbers_end n t = after (suc n) t
 
 -- of all
 abbrev pub functions_from : ℕ → List Body → List Function
 functions_from n [] = []
-functions_from n (b ∷ bs) = flat_functions n b.term ++ functions_from (numbers_end n b.term) bs
+functions_from n (b ∷ bs) = conversion n b.term ++ functions_from (numbers_end n b.term) bs
 
 abbrev pub flat_program : List Body → flat.Program
 flat_program bs = slice_get (functions_from 0 bs)
@@ -80,7 +77,7 @@ entry bs d = block_of (with_id base_id d bs)
 
 -- ---- the blocks of all
 abbrev pub lowered : (GlobalId → ℕ) → ℕ → Body → List Block
-lowered e n b = blocks e b.id (flat_functions n b.term)
+lowered e n b = blocks e b.id (conversion n b.term)
 
 abbrev pub program_from : (GlobalId → ℕ) → ℕ → List Body → Program
 program_from e n [] = []

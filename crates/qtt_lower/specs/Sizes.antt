@@ -7,10 +7,11 @@ use Rattle.qtt_term.specs.Signature.{Env}
 use Rattle.qtt_erase.specs.Lean.{Lean}
 use Rattle.qtt_erase.specs.Erasure.{erased_bodies}
 use Rattle.qtt_closure.specs.Flat.{Function}
+use Rattle.qtt_closure.specs.Conversion.{conversion}
 use Rattle.qtt_code.specs.Instruction.{Position, Block}
 use Rattle.qtt_lower.specs.declared.definition.Size.{Size}
 use Rattle.qtt_lower.specs.Lowering.{width}
-use Rattle.qtt_lower.specs.Programs.{Base, entry, flat_functions, lowered}
+use Rattle.qtt_lower.specs.Programs.{Base, entry, lowered}
 
 abbrev pub body_width : Function → ℕ
 body_width F = width Position.tail F.body
@@ -18,11 +19,11 @@ body_width F = width Position.tail F.body
 -- of a definition with this erased body, or with none
 abbrev pub block_count : Option Lean → ℕ
 block_count None = 0
-block_count (Some t) = length (flat_functions 0 t)
+block_count (Some t) = length (conversion 0 t)
 
 abbrev pub instruction_count : Option Lean → ℕ
 instruction_count None = 0
-instruction_count (Some t) = sum_by body_width (flat_functions 0 t)
+instruction_count (Some t) = sum_by body_width (conversion 0 t)
 
 -- a number, or one above its limit where it is greater
 abbrev pub capped : ℕ → ℕ → ℕ
