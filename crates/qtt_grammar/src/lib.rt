@@ -30,3 +30,6 @@ pub use laws::{
 };
 pub use parser::parse;
 pub use stop::Excess;
+
+#[cfg(test)]
+mod tests;
