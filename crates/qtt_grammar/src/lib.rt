@@ -31,3 +31,6 @@ pub use laws::{
 };
 pub use parser::parse;
 pub use stop::Excess;
+
+#[cfg(test)]
+mod tests;
