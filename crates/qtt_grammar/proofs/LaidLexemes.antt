@@ -425,8 +425,8 @@ lexemes_step : (x : Printed) (ps : List Printed) (s u v : State) (ms : List Laid
     → ((ns : List Laid) → Shown ns ps → map unplaced (lexemes ns) ≡ sketched ps) → map unplaced (lexemes ms) ≡ sketched (x ∷ ps)
 lexemes_step x ps s u v ms (plain_word {l} {b} {m} {bs} {k} {w} r i f) t h rest =
     shown_lexemes i ps ms
-    (λ e. type_unnumbered ps typed (inline false []) bs k (at b (inline false []) bs k) u (ap (λ (y : Left). at y
-    (inline false []) bs k) e) directly (calm_inline false []) t)
+    (λ e. type_unnumbered ps typed (inline false []) bs k (at b (inline false []) bs k) u
+    (ap (λ (y : Left). at y (inline false []) bs k) e) directly (calm_inline false []) t)
     h rest
 lexemes_step x ps s u v ms (opener_word {w} r i f) t h rest = shown_lexemes i ps ms (λ e. absurd (opener_untyped i e)) h rest
 lexemes_step x ps s u v ms (left_bracket {w} r i f) t h rest = shown_lexemes i ps ms (λ e. absurd (left_untyped i e)) h rest

@@ -214,8 +214,8 @@ next_put ls t e bs shut u b a d h =
     let not_deeper : is_deeper t.span.col (newest ls.blocks) ≡ false =
     ap (λ (v : List Block). is_deeper t.span.col (newest v)) b
     ∙ shallow t.span.col (bs ++ shut)
-    (under_all (λ x. t.span.col ≤ x.col) bs shut lower (each_wider {P = λ x. t.span.col < x.col} {Q = λ x. t.span.col ≤ x.col} shut (λ x k. omega
-    (arith, k)) d))
+    (under_all (λ x. t.span.col ≤ x.col) bs shut lower
+    (each_wider {P = λ x. t.span.col < x.col} {Q = λ x. t.span.col ≤ x.col} shut (λ x k. omega (arith, k)) d))
     in
     column_by (rules.opens ls t) (t.span.line == ls.line) _ _ (aligned_at ls t.span) (closed_block ls.awaits e _ a not_deeper)
     (apart_false t.span.line ls.line (λ k. omega (arith, h, k)))
@@ -672,7 +672,8 @@ finish : (u : State) (p : Place) (ls : rules.State) (pre : List Printed) (q : Pl
 finish u p ls pre q (finished l e shut) (w, h) = end_laid e shut ls pre q w
 
 lay_step : (x : Printed) (ps : List Printed) (s v : State) (q : Place) → Step s x v
-    → ((p : Place) (ls : rules.State) (pre : List Printed) → Matches v p ls pre → Laid_as ls (printed_tokens p ps ++ token kind.End q [] ∷ []) (pre ++ ps))
+    → ((p : Place) (ls : rules.State) (pre : List Printed) → Matches v p ls pre
+    → Laid_as ls (printed_tokens p ps ++ token kind.End q [] ∷ []) (pre ++ ps))
     → (p : Place) (ls : rules.State) (pre : List Printed) → Matches s p ls pre
     → Laid_as ls (printed_tokens p (x ∷ ps) ++ token kind.End q [] ∷ []) (pre ++ x ∷ ps)
 lay_step x ps s v q (plain_word {l} {b} {m} {bs} {k} {w} rd i f) rest p ls pre t =
