@@ -306,8 +306,12 @@ named_no_type c big = refl
 named_no_type c small_path = refl
 named_no_type c big_path = refl
 
+abbrev named_lexeme : Bool → List ℕ → Span → List ℕ → Lexeme
+named_lexeme b n s t = record (token_lexeme (cond b kind.Wildcard (kind.Name n)) s t) { found = t }
+
 name_apart : (b : Bool) (n : List ℕ) (s : Span) (t : List ℕ) → pointwise nat_eq n (codes "_") ≡ b
-    → (unplaced (record (token_lexeme (cond b kind.Wildcard (kind.Name n)) s t) { found = t }) ≡ lexeme.word (cond b class.Wildcard (name_class n)) nowhere n) × (is_type (token_lexeme (cond b kind.Wildcard (kind.Name n)) s t).class ≡ false)
+    → (unplaced (named_lexeme b n s t) ≡ lexeme.word (cond b class.Wildcard (name_class n)) nowhere n)
+    × (is_type (named_lexeme b n s t).class ≡ false)
 name_apart true n s t e = (ap (λ (m : List ℕ). lexeme.word class.Wildcard nowhere m) (sym (same_names n (codes "_") e)), refl)
 name_apart false n s t e = (refl, named_no_type (name_class n) (name_is n))
 
