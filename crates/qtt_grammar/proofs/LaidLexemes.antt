@@ -306,8 +306,12 @@ named_no_type c big = refl
 named_no_type c small_path = refl
 named_no_type c big_path = refl
 
+abbrev named_lexeme : Bool → List ℕ → Span → List ℕ → Lexeme
+named_lexeme b n s t = record (token_lexeme (cond b kind.Wildcard (kind.Name n)) s t) { found = t }
+
 name_apart : (b : Bool) (n : List ℕ) (s : Span) (t : List ℕ) → pointwise nat_eq n (codes "_") ≡ b
-    → (unplaced (record (token_lexeme (cond b kind.Wildcard (kind.Name n)) s t) { found = t }) ≡ lexeme.word (cond b class.Wildcard (name_class n)) nowhere n) × (is_type (token_lexeme (cond b kind.Wildcard (kind.Name n)) s t).class ≡ false)
+    → (unplaced (named_lexeme b n s t) ≡ lexeme.word (cond b class.Wildcard (name_class n)) nowhere n)
+    × (is_type (named_lexeme b n s t).class ≡ false)
 name_apart true n s t e = (ap (λ (m : List ℕ). lexeme.word class.Wildcard nowhere m) (sym (same_names n (codes "_") e)), refl)
 name_apart false n s t e = (refl, named_no_type (name_class n) (name_is n))
 
@@ -425,8 +429,8 @@ lexemes_step : (x : Printed) (ps : List Printed) (s u v : State) (ms : List Laid
     → ((ns : List Laid) → Shown ns ps → map unplaced (lexemes ns) ≡ sketched ps) → map unplaced (lexemes ms) ≡ sketched (x ∷ ps)
 lexemes_step x ps s u v ms (plain_word {l} {b} {m} {bs} {k} {w} r i f) t h rest =
     shown_lexemes i ps ms
-    (λ e. type_unnumbered ps typed (inline false []) bs k (at b (inline false []) bs k) u (ap (λ (y : Left). at y
-    (inline false []) bs k) e) directly (calm_inline false []) t)
+    (λ e. type_unnumbered ps typed (inline false []) bs k (at b (inline false []) bs k) u
+    (ap (λ (y : Left). at y (inline false []) bs k) e) directly (calm_inline false []) t)
     h rest
 lexemes_step x ps s u v ms (opener_word {w} r i f) t h rest = shown_lexemes i ps ms (λ e. absurd (opener_untyped i e)) h rest
 lexemes_step x ps s u v ms (left_bracket {w} r i f) t h rest = shown_lexemes i ps ms (λ e. absurd (left_untyped i e)) h rest

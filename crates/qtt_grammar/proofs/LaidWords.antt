@@ -214,8 +214,8 @@ next_put ls t e bs shut u b a d h =
     let not_deeper : is_deeper t.span.col (newest ls.blocks) ≡ false =
     ap (λ (v : List Block). is_deeper t.span.col (newest v)) b
     ∙ shallow t.span.col (bs ++ shut)
-    (under_all (λ x. t.span.col ≤ x.col) bs shut lower (each_wider {P = λ x. t.span.col < x.col} {Q = λ x. t.span.col ≤ x.col} shut (λ x k. omega
-    (arith, k)) d))
+    (under_all (λ x. t.span.col ≤ x.col) bs shut lower
+    (each_wider {P = λ x. t.span.col < x.col} {Q = λ x. t.span.col ≤ x.col} shut (λ x k. omega (arith, k)) d))
     in
     column_by (rules.opens ls t) (t.span.line == ls.line) _ _ (aligned_at ls t.span) (closed_block ls.awaits e _ a not_deeper)
     (apart_false t.span.line ls.line (λ k. omega (arith, h, k)))
@@ -618,6 +618,9 @@ mark_split : (ls : rules.State) (ts : List Token) (pre ps : List Printed) (q : P
 mark_split ls ts pre ps q y = subst (Laid_as ls ts) (append_assoc pre (q ∷ []) ps) y
 
 -- `)` closes the blocks behind it
+abbrev right_token : Place → Token
+right_token p = word_token p (sign (codes ")"))
+
 since_exact : (k : ℕ) (bs shut : List Block) → Each (λ x. suc k ≤ x.brackets) shut → Under (λ x. x.brackets ≤ k) bs
     → since_bracket (suc k) (bs ++ shut) ≡ length shut
 since_exact k bs shut d u =
@@ -628,9 +631,11 @@ since_exact k bs shut d u =
 right_put : (bs shut : List Block) (k : ℕ) (p : Place) (ls : rules.State) (pre : List Printed) (ts : List Token)
     → Each (λ x. suc k ≤ x.brackets) shut → Under (λ x. x.brackets ≤ k) bs
     → (w : Waits (due false (length shut)) (bs ++ shut) (suc k) false ls pre) → ls.line ≡ p.line
-    → put_from ls (word_tokens p (sign (codes ")")) ++ ts) ≡ put_before (due false (length shut) (word_token p (sign (codes ")"))).span ++ Tok (word_token p (sign (codes ")"))) ∷ []) (put_from (behind role.RightBracket ls (word_token p (sign (codes ")"))) (bs ++ shut)) ts)
+    → put_from ls (word_tokens p (sign (codes ")")) ++ ts)
+    ≡ put_before (due false (length shut) (right_token p).span ++ Tok (right_token p) ∷ [])
+    (put_from (behind role.RightBracket ls (right_token p) (bs ++ shut)) ts)
 right_put bs shut k p ls pre ts d u w h =
-    let t = word_token p (sign (codes ")")) in
+    let t = right_token p in
     let all = bs ++ shut in
     first_put role.RightBracket ls t ts refl
     ∙ ap (λ (o : Option Put). by_put role.RightBracket ls t o (λ n. put_from n ts)) (same_line ls t all w.blocks w.awaits (sym h))
@@ -639,7 +644,7 @@ right_put bs shut k p ls pre ts d u w h =
 
 right_match : (bs shut : List Block) (k : ℕ) (p : Place) (ls : rules.State) (pre : List Printed) → Each (λ x. suc k ≤ x.brackets) shut
     → Under (λ x. x.brackets ≤ k) bs → Waits (due false (length shut)) (bs ++ shut) (suc k) false ls pre
-    → Waits (due false 0) (bs ++ []) k false (behind role.RightBracket ls (word_token p (sign (codes ")"))) (bs ++ shut)) []
+    → Waits (due false 0) (bs ++ []) k false (behind role.RightBracket ls (right_token p) (bs ++ shut)) []
 right_match bs shut k p ls pre d u w =
     let all = bs ++ shut in
     record {
@@ -672,7 +677,8 @@ finish : (u : State) (p : Place) (ls : rules.State) (pre : List Printed) (q : Pl
 finish u p ls pre q (finished l e shut) (w, h) = end_laid e shut ls pre q w
 
 lay_step : (x : Printed) (ps : List Printed) (s v : State) (q : Place) → Step s x v
-    → ((p : Place) (ls : rules.State) (pre : List Printed) → Matches v p ls pre → Laid_as ls (printed_tokens p ps ++ token kind.End q [] ∷ []) (pre ++ ps))
+    → ((p : Place) (ls : rules.State) (pre : List Printed) → Matches v p ls pre
+    → Laid_as ls (printed_tokens p ps ++ token kind.End q [] ∷ []) (pre ++ ps))
     → (p : Place) (ls : rules.State) (pre : List Printed) → Matches s p ls pre
     → Laid_as ls (printed_tokens p (x ∷ ps) ++ token kind.End q [] ∷ []) (pre ++ x ∷ ps)
 lay_step x ps s v q (plain_word {l} {b} {m} {bs} {k} {w} rd i f) rest p ls pre t =
@@ -715,7 +721,7 @@ lay_step x ps s v q (left_bracket {l} {b} {m} {bs} {k} {w} rd i f) rest p ls pre
     in
     tokens_split ls (word_tokens p w) _ _ (pre ++ word w ∷ ps) (word_first w p ls y.last pre ps y.marks _ (y.put _) y.emits z)
 lay_step x ps s v q (right_bracket {l} {shut} {bs} {k} o d u) rest p ls pre (w, h) =
-    let tok = word_token p (sign (codes ")")) in
+    let tok = right_token p in
     let last = behind role.RightBracket ls tok (bs ++ shut) in
     let z =
     rest (behind_written p (word (sign (codes ")")))) last [] (right_match bs shut k p ls pre d u w, sym (word_line p right_lexes)) in

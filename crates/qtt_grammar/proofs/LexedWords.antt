@@ -102,7 +102,8 @@ pub record Lexes (w : Word) (b : Left) : Type 0 where
   pub undashed : begins_with_dash w ≡ false → (head == 45) ≡ false
   pub closes : is_end_brace w ≡ true → head ≡ 125
   pub lex : (p : Place) (rest : List ℕ) → Allows b rest
-      → tokens_from false p 0 (chars (spelled w) ++ rest) ≡ with_front (word_tokens p w) (tokens_from false (place_after p (chars (spelled w))) 0 rest)
+      → tokens_from false p 0 (chars (spelled w) ++ rest)
+      ≡ with_front (word_tokens p w) (tokens_from false (place_after p (chars (spelled w))) 0 rest)
 
 -- ---- steps of the lexer
 
@@ -254,8 +255,9 @@ name_lexes n f =
     let same = same_word n f.utf8 g in
     single (named n) wordy g.head g.tail (λ p. refl) f.utf8 g.are (name_one_line g.head g.tail g.form) (λ e. no_dash g.head g.form.begins)
     (λ e. absurd cc)
-    (λ rest a. name_piece g.head g.tail rest g.form a ∙ ap (λ (m : List ℕ). piece.Token (unwrap_or (reserved m) (kind.Name m)) (suc
-    (length g.tail))) same ∙ ap (λ (k : TokenKind). piece.Token k (suc (length g.tail))) (named_kind n f.free))
+    (λ rest a. name_piece g.head g.tail rest g.form a
+    ∙ ap (λ (m : List ℕ). piece.Token (unwrap_or (reserved m) (kind.Name m)) (suc (length g.tail))) same
+    ∙ ap (λ (k : TokenKind). piece.Token k (suc (length g.tail))) (named_kind n f.free))
 
 mark_ascii : IsAscii (63 ∷ [])
 mark_ascii = ascii_list (63 ∷ []) refl
@@ -270,8 +272,8 @@ hole_lexes n f =
     ∙ ap (λ (v : List ℕ). v ++ chars n) (chars-IsAscii (63 ∷ []) mark_ascii)
     ∙ ap (λ (v : List ℕ). 63 ∷ v) g.are in
     single (hole_named n) wordy 63 (g.head ∷ g.tail) (λ p. refl) utf8 are (name_one_line g.head g.tail g.form) (λ e. refl) (λ e. absurd cc)
-    (λ rest a. hole_piece g.head g.tail rest g.form a (ap names_hole same ∙ f.simple) ∙ ap (λ (m : List ℕ). piece.Token (kind.Hole m) (suc
-    (suc (length g.tail)))) same)
+    (λ rest a. hole_piece g.head g.tail rest g.form a (ap names_hole same ∙ f.simple)
+    ∙ ap (λ (m : List ℕ). piece.Token (kind.Hole m) (suc (suc (length g.tail)))) same)
 
 -- ---- numbers, texts and `Type`
 
@@ -311,7 +313,8 @@ type_lexes =
     (chars-IsAscii (codes "Type") (ascii_list (codes "Type") refl)) refl (λ e. refl) (λ e. absurd cc) type_piece
 
 level_steps : (l : ℕ) → l < 2 ^ 63 → (p : Place) (rest : List ℕ) → Separated rest
-    → tokens_from false p 0 ((codes "Type " ++ fmt.decimal l) ++ rest) ≡ with_front (word_tokens p (type_at l)) (tokens_from false (place_after p (codes "Type " ++ fmt.decimal l)) 0 rest)
+    → tokens_from false p 0 ((codes "Type " ++ fmt.decimal l) ++ rest)
+    ≡ with_front (word_tokens p (type_at l)) (tokens_from false (place_after p (codes "Type " ++ fmt.decimal l)) 0 rest)
 level_steps l h p rest a =
     let ds = fmt.decimal l in
     let g = decimal_digits l (below_64 l h) in
@@ -321,8 +324,8 @@ level_steps l h p rest a =
     (number_piece g.head g.tail rest l (ap all_ascii_digits (sym g.are) ∙ g.all) (ap decimal (sym g.are) ∙ g.value) h a) in
     token_step p kind.Type (codes "Type") (32 ∷ (ds ++ rest)) (omega arith) (type_piece (32 ∷ (ds ++ rest)) (before_blank (ds ++ rest)))
     ∙ ap (with_front (token kind.Type p (codes "Type") ∷ []))
-    (blank_step (place_after p (codes "Type")) (ds ++ rest) ∙ token_step (place_after p (codes "Type ")) (kind.Number
-    (pos l)) ds rest some number)
+    (blank_step (place_after p (codes "Type")) (ds ++ rest)
+    ∙ token_step (place_after p (codes "Type ")) (kind.Number (pos l)) ds rest some number)
     ∙ front_front (token kind.Type p (codes "Type") ∷ []) (token (kind.Number (pos l)) (place_after p (codes "Type ")) ds ∷ [])
     (tokens_from false (place_after p (codes "Type " ++ ds)) 0 rest)
 
@@ -341,8 +344,8 @@ level_lexes l h =
       closes = λ e. absurd cc;
       lex =
           λ p rest a. subst
-          (λ (cs : List ℕ). tokens_from false p 0 (cs ++ rest) ≡ with_front (word_tokens p (type_at l)) (tokens_from false
-          (place_after p cs) 0 rest))
+          (λ (cs : List ℕ). tokens_from false p 0 (cs ++ rest)
+          ≡ with_front (word_tokens p (type_at l)) (tokens_from false (place_after p cs) 0 rest))
           (sym are) (level_steps l h p rest a);
     }
 
@@ -422,7 +425,8 @@ right_allows l rest loose_typed = before_bracket rest
 pub record Lexed (l : Left) (ps : List Printed) (b : Left) : Type 0 where
   pub utf8 : IsUtf8 (written ps)
   pub lex : (p : Place) (rest : List ℕ) → Allows b rest
-      → tokens_from false p 0 (chars (written ps) ++ rest) ≡ with_front (printed_tokens p ps) (tokens_from false (place_after p (chars (written ps))) 0 rest)
+      → tokens_from false p 0 (chars (written ps) ++ rest)
+      ≡ with_front (printed_tokens p ps) (tokens_from false (place_after p (chars (written ps))) 0 rest)
   pub allows : (rest : List ℕ) → Allows b rest → Allows l (chars (written ps) ++ rest)
 
 record Element (l : Left) (q : Printed) (b : Left) : Type 0 where
@@ -442,8 +446,8 @@ between l b q cs u e t f g = record {
   lex = λ p rest a.
       subst (λ (ds : List ℕ). tokens_from false p 0 (ds ++ rest) ≡ with_front (tokens_at p q) (tokens_from false (place_after p ds) 0 rest))
       (sym e)
-      (f p rest ∙ sym (front_none (tokens_from false (place_after p cs) 0 rest)) ∙ ap (λ (ts : List Token). with_front ts (tokens_from false
-      (place_after p cs) 0 rest)) (sym (t p)));
+      (f p rest ∙ sym (front_none (tokens_from false (place_after p cs) 0 rest))
+      ∙ ap (λ (ts : List Token). with_front ts (tokens_from false (place_after p cs) 0 rest)) (sym (t p)));
   allows = λ rest a. subst (λ (ds : List ℕ). Allows l (ds ++ rest)) (sym e) (g rest a);
 }
 

@@ -193,8 +193,8 @@ bracketed_goes w r g = opened_by left_sign r tt (goes_then g (λ u e. bracket_en
 pub parted_goes : {c k : ℕ} {bs : List Block} (b : Bool) (u : State) → Within c k bs → Ends c k bs b u → Goes u (parted c b) (Resumes k bs)
 parted_goes {c} true u w (ends l shut o d n) =
     steps (breaks c)
-    (steps (resumes (each_wider shut (λ x e. omega (arith, e.0)) d) (under_left w)) (stays (resumed (spaced l) fresh ready_fresh
-    (blanked_of l o))))
+    (steps (resumes (each_wider shut (λ x e. omega (arith, e.0)) d) (under_left w))
+    (stays (resumed (spaced l) fresh ready_fresh (blanked_of l o))))
 parted_goes false u w (ends l shut o d n) =
     rw (n refl) (steps a_blank (stays (resumed (spaced l) (inline false []) ready_inline (blanked_of l o))))
 
@@ -203,8 +203,9 @@ pub brace_ends : {c k : ℕ} {bs : List Block} (b : Bool) (u : State) → Within
     → Goes u (broken_words c b ++ key (codes "}") ∷ []) (Stands true k bs)
 brace_ends {c} true u w (ends l shut o d n) =
     steps (breaks c)
-    (steps (resumes (each_wider shut (λ x e. omega (arith, e.0)) d) (under_left w)) (keyed end_brace_sign ready_fresh (blanked_follows
-    (spaced l) (sign (codes "}")) (blanked_of l o) refl) (stays (stands free untyped_free))))
+    (steps (resumes (each_wider shut (λ x e. omega (arith, e.0)) d) (under_left w))
+    (keyed end_brace_sign ready_fresh (blanked_follows (spaced l) (sign (codes "}")) (blanked_of l o) refl)
+    (stays (stands free untyped_free))))
 brace_ends false u w (ends l shut o d n) =
     rw (n refl) (keyed end_brace_sign ready_inline (loose_brace l o) (stays (stands free untyped_free)))
 
@@ -440,8 +441,8 @@ module _ (pass : Pass) where
       → Goes u (blank ∷ key (codes "->") ∷ blank ∷ expr c t) (Ends c k bs (ends_open t))
   arrow_goes {b} {c} {k} {bs} t u (stands l f) w h =
       steps a_blank
-      (keyed arrow_sign ready_inline (blanked_follows (spaced l) (sign (codes "->")) (blanked_of l (fine_loose b l f)) refl) (steps a_blank
-      (h k bs (inline false []) ready_inline w)))
+      (keyed arrow_sign ready_inline (blanked_follows (spaced l) (sign (codes "->")) (blanked_of l (fine_loose b l f)) refl)
+      (steps a_blank (h k bs (inline false []) ready_inline w)))
 
   -- a symbol behind a blank or a new line, and what stands behind it
   resumed_then : {b : Left} {s : List ℕ} {k : ℕ} {bs : List Block} {ps : List Printed} {R : State → Type 0} (u : State)
@@ -454,8 +455,8 @@ module _ (pass : Pass) where
   let_head_goes c k bs md m n b ts e f r w g h =
       goes_then {R = λ u. Goes u ts (Ends c k bs b)}
       (keyed let_sign r tt (steps a_blank (marked_goes m ready_inline (λ q y. name_then f y (stays g)))))
-      (λ u t. goes_then t (λ v x. goes_then (parted_goes b v w x) (λ z y. resumed_then z equals_sign y (steps a_blank (h k bs
-      (inline false []) ready_inline w)))))
+      (λ u t. goes_then t (λ v x. goes_then (parted_goes b v w x)
+      (λ z y. resumed_then z equals_sign y (steps a_blank (h k bs (inline false []) ready_inline w)))))
 
   -- behind something where anything may follow
   data Clear (k : ℕ) (bs : List Block) : State → Type 0 where
@@ -517,14 +518,15 @@ module _ (pass : Pass) where
     expr_goes c (pi Inserted q n a b s) f k bs m r w = absurd f
     expr_goes c (lambda ps t s) f k bs m r w =
         keyed backslash_sign r tt
-        (goes_then (binders_go c ps f.1.0 k bs w) (λ u x. clear_then u x (keyed fat_arrow_sign ready_inline tt (steps a_blank
+        (goes_then (binders_go c ps f.1.0 k bs w)
+        (λ u x. clear_then u x (keyed fat_arrow_sign ready_inline tt (steps a_blank
         (expr_goes c t f.1.1 k bs (inline false []) ready_inline w)))))
     expr_goes c (letting q n t e b s) f k bs m r w =
         goes_then
         (let_head_goes c k bs m q n.name (annotation_open t) (annotation c t) e f.0.1 r w (annotation_goes c t f.1.0 k bs w)
         (expr_goes c e f.1.1.0.0))
-        (λ u x. goes_then (parted_goes (ends_open e) u w x) (λ v y. resumed_then v in_sign y (steps a_blank (expr_goes c b f.1.1.1 k bs
-        (inline false []) ready_inline w))))
+        (λ u x. goes_then (parted_goes (ends_open e) u w x)
+        (λ v y. resumed_then v in_sign y (steps a_blank (expr_goes c b f.1.1.1 k bs (inline false []) ready_inline w))))
     expr_goes c (doing ss s) f k bs m r w =
         steps (opener_word r (a_sign do_sign) tt)
         (steps opens (goes_then (statements_go c ss f k bs w) (λ u x. block_closes c k bs true u x)))
@@ -544,8 +546,8 @@ module _ (pass : Pass) where
         (λ v y. arguments_go c more false f.1 k bs w v y))
     arguments_go c (argument_and (argument Braced t) more) i f k bs w u (stands l x) =
         steps a_blank
-        (goes_then (braced_goes c k bs (spaced l) t (blanked_of l x) w (expr_goes c t f.1.0.0)) (λ v y. arguments_go c more i f.1.1 k bs w v
-        (atom_ends (number_first more) v y)))
+        (goes_then (braced_goes c k bs (spaced l) t (blanked_of l x) w (expr_goes c t f.1.0.0))
+        (λ v y. arguments_go c more i f.1.1 k bs w v (atom_ends (number_first more) v y)))
     arguments_go c (argument_and (argument Inserted t) more) i f k bs w u x = absurd f
 
     binders_go : (c : ℕ) (ps : Binders) → formed.Binders_formed Fit pass ps → (k : ℕ) (bs : List Block) → Within c k bs
@@ -574,15 +576,15 @@ module _ (pass : Pass) where
     more_go c n s no_statement f k bs w u x = stays x
     more_go c n s (statement_and t rest) f k bs w u x =
         item_begins u w x
-        (goes_then (statement_goes c t (statement_formed (suc n) t rest f.1.1.1) k bs w) (λ v y. more_go c
-        (suc n) t rest f.1.1.1 k bs w v y))
+        (goes_then (statement_goes c t (statement_formed (suc n) t rest f.1.1.1) k bs w)
+        (λ v y. more_go c (suc n) t rest f.1.1.1 k bs w v y))
 
     statement_goes : (c : ℕ) (s : Statement) → formed.Statement_formed Fit pass s → (k : ℕ) (bs : List Block) → Within c k bs
         → Goes (at free fresh bs k) (statement c s) (Ends c k bs true)
     statement_goes c (bind n e) f k bs w =
         name_then f.0.1 ready_fresh
-        (steps a_blank (keyed left_arrow_sign ready_inline tt (steps a_blank (goes_wider (expr_goes c e f.1.0 k bs
-        (inline false []) ready_inline w) looser))))
+        (steps a_blank (keyed left_arrow_sign ready_inline tt
+        (steps a_blank (goes_wider (expr_goes c e f.1.0 k bs (inline false []) ready_inline w) looser))))
     statement_goes c (local q n t e s) f k bs w =
         goes_wider
         (let_head_goes c k bs fresh q n.name (annotation_open t) (annotation c t) e f.0.1 ready_fresh w (annotation_goes c t f.1.0 k bs w)

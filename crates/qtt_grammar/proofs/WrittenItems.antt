@@ -57,14 +57,15 @@ module _ (wild : Fit (named (codes "_"))) (pass : Pass) where
       → Goes (at free m bs k) (key (codes "{") ∷ (binding mult.Zero n (expr c t) ++ (broken_words c (ends_open t) ++ key (codes "}") ∷ []))) (Stands true k bs)
   implicit_domain c k bs m n t f r w h =
       keyed brace_sign r tt
-      (goes_then (restart brace (binding mult.Zero n (expr c t)) (refl, refl) (binding_goes mult.Zero n ready_inline f (h k bs
-      (inline false []) ready_inline w))) (λ u x. brace_ends (ends_open t) u w x))
+      (goes_then (restart brace (binding mult.Zero n (expr c t)) (refl, refl)
+      (binding_goes mult.Zero n ready_inline f (h k bs (inline false []) ready_inline w)))
+      (λ u x. brace_ends (ends_open t) u w x))
 
   pub typing_goes : (c : ℕ) (t : Tree) → formed.Typing_formed Fit pass t → Expression c t
   typing_goes c (pi Braced q n a b s) f k bs m r w =
       rw f.0
-      (goes_then (implicit_domain c k bs m n a f.1.0.1 r w (expr_goes pass c a f.1.1.0.0)) (λ u x. arrow_goes pass b u x w
-      (typing_goes c b f.1.1.1)))
+      (goes_then (implicit_domain c k bs m n a f.1.0.1 r w (expr_goes pass c a f.1.1.0.0))
+      (λ u x. arrow_goes pass b u x w (typing_goes c b f.1.1.1)))
   typing_goes c (pi Written q n a b s) f k bs m r w = expr_goes pass c (pi Written q n a b s) f.0 k bs m r w
   typing_goes c (pi Inserted q n a b s) f k bs m r w = absurd f.0
   typing_goes c (name n) f k bs m r w = expr_goes pass c (name n) f.0 k bs m r w
@@ -88,8 +89,10 @@ module _ (wild : Fit (named (codes "_"))) (pass : Pass) where
     pattern_goes (constructor i n no_shape s) f k bs w = name_then f.1.1.0.1 ready_inline (stays (stands wordy untyped_wordy))
     pattern_goes (constructor i n (shape_and p more) s) f k bs w =
         bracketed_goes {b = false} w ready_inline
-        (name_then f.1.1.0.1 ready_inline (goes_wider (patterns_go 0 (shape_and p more) f.1.1.1 (suc k) bs (within_more w) (at wordy
-        (inline false []) bs (suc k)) (stands wordy untyped_wordy)) (stand_ends pass)))
+        (name_then f.1.1.0.1 ready_inline (goes_wider
+        (patterns_go 0 (shape_and p more) f.1.1.1 (suc k) bs (within_more w) (at wordy (inline false []) bs (suc k))
+        (stands wordy untyped_wordy))
+        (stand_ends pass)))
     pattern_goes (dot i t s) f k bs w =
         opened_by dot_sign ready_inline tt
         (goes_then (expr_goes pass 0 t f.1.0 (suc k) bs (inline false []) ready_inline (within_more w)) (λ u x. bracket_ends u w x))
@@ -107,8 +110,10 @@ module _ (wild : Fit (named (codes "_"))) (pass : Pass) where
   params_go i n [] f k bs w u x = stays x
   params_go i n (param q m t s ∷ more) f k bs w u x =
       blank_then pass u x
-      (goes_then (bracketed_goes w ready_inline (binding_goes q m ready_inline f.1.0.1.0.1 (expr_goes pass 0 t f.1.0.1.1.0.0 (suc k) bs
-      (inline false []) ready_inline (within_more w)))) (λ v y. params_go i (suc n) more f.1.1 k bs w v y))
+      (goes_then (bracketed_goes w ready_inline
+      (binding_goes q m ready_inline f.1.0.1.0.1
+      (expr_goes pass 0 t f.1.0.1.1.0.0 (suc k) bs (inline false []) ready_inline (within_more w))))
+      (λ v y. params_go i (suc n) more f.1.1 k bs w v y))
 
   con_goes : (l : ℕ) (c : Con) → formed.Con_formed Fit pass l c → (k : ℕ) (bs : List Block) → Within 2 k bs
       → Goes (at free fresh bs k) (con_words c) (Ends 2 k bs true)
@@ -157,19 +162,19 @@ module _ (wild : Fit (named (codes "_"))) (pass : Pass) where
       → Within 0 k bs → Goes (at free fresh bs k) (item t) (Item_ends k bs)
   item_goes l i place (family n ns ps t cs s) f k bs w =
       keyed data_sign ready_fresh tt
-      (steps a_blank (name_then f.0.1 ready_inline (goes_then (params_go i 0 ps f.1.0 k bs w (at wordy (inline false []) bs k)
-      (stands wordy untyped_wordy))
-      (λ u x. blank_then pass u x (keyed colon_sign ready_inline tt (steps a_blank (goes_then (expr_goes pass 0 t f.1.1.0.0.0 k bs
-      (inline false []) ready_inline w) (λ v y. goes_then (parted_goes (ends_open t) v w y)
-      (λ z g. where_goes l cs f.1.1.1 k bs w z g)))))))))
+      (steps a_blank (name_then f.0.1 ready_inline (goes_then
+      (params_go i 0 ps f.1.0 k bs w (at wordy (inline false []) bs k) (stands wordy untyped_wordy))
+      (λ u x. blank_then pass u x (keyed colon_sign ready_inline tt (steps a_blank (goes_then
+      (expr_goes pass 0 t f.1.1.0.0.0 k bs (inline false []) ready_inline w)
+      (λ v y. goes_then (parted_goes (ends_open t) v w y) (λ z g. where_goes l cs f.1.1.1 k bs w z g)))))))))
   item_goes l i place (signature p q n ns t s) f k bs w =
       partial_goes p
       (λ m r. binding_goes q n r f.1.0.1 (goes_wider (typing_goes 0 t f.1.1.0 k bs (inline false []) ready_inline w) item_of))
   item_goes l i place (clause n ps side s) f k bs w =
       name_then f.0.1 ready_fresh
       (goes_then (patterns_go 0 (shapes ps) f.1.1.0.0 k bs w (at wordy (inline false []) bs k) (stands wordy untyped_wordy))
-      (λ u x. blank_then pass u x (keyed equals_sign ready_inline tt (steps a_blank (goes_wider (expr_goes pass 0 side f.1.1.1.0 k bs
-      (inline false []) ready_inline w) item_of)))))
+      (λ u x. blank_then pass u x (keyed equals_sign ready_inline tt (steps a_blank
+      (goes_wider (expr_goes pass 0 side f.1.1.1.0 k bs (inline false []) ready_inline w) item_of)))))
 
   -- ---- modules
 
@@ -183,8 +188,8 @@ module _ (wild : Fit (named (codes "_"))) (pass : Pass) where
   imports_go [] f k bs w u x = stays x
   imports_go (j ∷ more) f k bs w u x =
       next_line u w x
-      (keyed import_sign ready_fresh tt (steps a_blank (name_then f.0.1 ready_inline (imports_go more f.1 k bs w (at wordy
-      (inline false []) bs k) (item_ends wordy false [] tt)))))
+      (keyed import_sign ready_fresh tt (steps a_blank (name_then f.0.1 ready_inline
+      (imports_go more f.1 k bs w (at wordy (inline false []) bs k) (item_ends wordy false [] tt)))))
 
   items_go : (l i : ℕ) (place : grammar.Place) (ts : List Item) → formed.Items_formed Fit pass l i place ts → (k : ℕ) (bs : List Block)
       → Within 0 k bs → (u : State) → Item_ends k bs u → Goes u (items ts) (Item_ends k bs)
@@ -203,6 +208,6 @@ module _ (wild : Fit (named (codes "_"))) (pass : Pass) where
       → Goes (at free fresh (block_at 1 0 ∷ []) 0) (behind_open t) Finished
   module_goes l i (module_text s n ns is ts) f =
       keyed module_sign ready_fresh tt (steps a_blank (name_then f.0.1 ready_inline
-      (goes_then (imports_go is f.1.0 0 (block_at 1 0 ∷ []) within_module (at wordy (inline false []) (block_at 1 0 ∷ []) 0)
-      (item_ends wordy false [] tt))
+      (goes_then (imports_go is f.1.0 0 (block_at 1 0 ∷ []) within_module
+      (at wordy (inline false []) (block_at 1 0 ∷ []) 0) (item_ends wordy false [] tt))
       (λ u x. goes_then (items_go l i grammar.start ts f.1.1 0 (block_at 1 0 ∷ []) within_module u x) (λ v y. module_ends v y)))))
