@@ -1,11 +1,15 @@
--- Worked examples of the words, of trees, and of a run.
+-- Worked examples of the words, of trees, of a text, and of a run.
 use Rattle.std.specs.Prelude.{◌≡◌, ℕ, false, true, List, [], ◌∷◌, ◌++◌, codes, Some, None, Ok, Err, refl}
 use Rattle.std.specs.Str.{chars, is_utf8}
+use Rattle.std.specs.Str.Lossy.{utf8_valid_len}
 use lib.Utf8.{encode}
 use Rattle.qtt_base.specs.declared.place.Span.{Span}
+use Rattle.qtt_lexer.specs.Lexed.{lexed, tokens_from}
 use Rattle.qtt_lexer.specs.declared.token.Token.{Token}
 use Rattle.qtt_lexer.specs.declared.token.TokenKind.{TokenKind}
 use Rattle.qtt_lexer.specs.declared.token.TokenKind.TheVariants as kind
+use Rattle.qtt_layout.specs.Rules.{laid, put_from}
+use Rattle.qtt_grammar.specs.Readers.{text_at, module_at}
 use Rattle.qtt_syntax.specs.declared.expr.Mark.TheVariants.{Written}
 use Rattle.qtt_syntax.specs.declared.expr.Target.TheVariants.{Unknown}
 use Rattle.qtt_syntax.specs.Tree.{Tree, Statement, Item, Module, arguments, statements}
@@ -19,7 +23,7 @@ use Rattle.qtt_term.specs.Contraction.{contract}
 use Rattle.qtt_term.specs.FullRun.{Verdict}
 use Rattle.qtt_cli.specs.Words.{asked_in, reads_as_name}
 use Rattle.qtt_cli.specs.Hello.{lines_of}
-use Rattle.qtt_cli.specs.Reading.{has_name, stands_alone, wrong_name, not_yet}
+use Rattle.qtt_cli.specs.Reading.{has_name, stands_alone, wrong_name, not_yet, tree_of_text, reading}
 use Rattle.qtt_cli.specs.Smallest.{run_of, output}
 
 abbrev at : ℕ → Span
@@ -109,6 +113,14 @@ prim_is_no_program = refl
 pub an_import : stands_alone (module_text (at 1) (codes "Main") (at 8) (record { name = codes "Lists"; span = at 9 } ∷ []) [])
     ≡ Err (not_yet (at 9))
 an_import = refl
+
+-- ---- texts
+
+-- the text without a byte ends too soon, at 1:1
+pub empty_text : reading (codes "Main") []
+    ≡ Err (record { kind = 8; span = record { line = 1; col = 1; len = 0 }; word = codes "end"; count = 0 })
+unfolding reading tree_of_text lexed tokens_from utf8_valid_len chars laid put_from text_at module_at
+empty_text = refl
 
 -- ---- runs
 
