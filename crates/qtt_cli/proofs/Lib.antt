@@ -1,7 +1,9 @@
 pub mod Answering
 pub mod Components
 pub mod Gains
+pub mod Hellos
 pub mod Runs
+pub mod Stages
 pub mod Statuses
-pub mod Texts
+pub mod Telling
 pub mod Turns

@@ -1,11 +1,12 @@
 -- What each status says, by the endings that it may come from.
 use Rattle.std.proofs.Common.{◌≡◌, ◌≢◌, ℕ, List, [], Option, None, ◌⊎◌, inl, inr, String, Global, sym, ◌∙◌, arith}
 use Rattle.qtt_edge.specs.Sink.{Adds, AddsFront}
+use Rattle.qtt_lexer.specs.Lexed.{seen}
 use Rattle.qtt_cli.specs.declared.ending.Ending.{Ending}
 use Rattle.qtt_cli.specs.declared.ending.Ending.TheVariants as ending
 use Rattle.qtt_cli.specs.Words.{asked}
 use Rattle.qtt_cli.specs.Smallest.{output}
-use Rattle.qtt_cli.specs.Answers.{Texts, Accepts, Refuses, Fails, Misses, PutsFront, Tells, TellsFront, Due, usage_line, absent_line, not_yet_line, vault_line, output_line, memory_line}
+use Rattle.qtt_cli.specs.Answers.{Texts, Accepts, Refuses, Fails, Misses, PutsFront, Tells, TellsFront, Due, usage_line, absent_line, refusal_line, vault_line, output_line, memory_line}
 use Rattle.qtt_cli.specs.Endings.{Faults, Ends, Finishes, Reports}
 
 -- what is seen of a call: the words and the vault's texts, the faults that rose, both sinks before and after, and the status
@@ -52,7 +53,7 @@ pub accepted_status : (s : Seen) (e : Ending) → EndsIn s e → FinishesIn s e 
 accepted_status s ending.Ran ends told is = (ends.0, ends.1, ends.2, told.1)
 accepted_status s ending.Usage ends told is = absurd (other_status s 64 usage_line 0 (omega arith) (omega arith) told is)
 accepted_status s (ending.Absent name) ends told is = absurd (other_status s 66 (absent_line name.now) 0 (omega arith) (omega arith) told is)
-accepted_status s (ending.Refused name) ends told is = absurd (other_status s 1 (not_yet_line name.now) 0 (omega arith) (omega arith) told is)
+accepted_status s (ending.Refused name fault) ends told is = absurd (other_status s 1 (refusal_line name.now (seen fault)) 0 (omega arith) (omega arith) told is)
 accepted_status s ending.VaultFailed ends told is = absurd (other_status s 74 vault_line 0 (omega arith) (omega arith) told is)
 accepted_status s ending.OutputFailed ends told is = absurd (other_status s 74 output_line 0 (omega arith) (omega arith) told is)
 accepted_status s ending.Memory ends told is = absurd (not_both s 71 0 (omega arith) told.0 is)
@@ -61,9 +62,8 @@ pub refused_status : (s : Seen) (e : Ending) → EndsIn s e → FinishesIn s e �
 refused_status s ending.Ran ends told is = absurd (not_both s 0 1 (omega arith) told.0 is)
 refused_status s ending.Usage ends told is = absurd (other_status s 64 usage_line 1 (omega arith) (omega arith) told is)
 refused_status s (ending.Absent name) ends told is = absurd (other_status s 66 (absent_line name.now) 1 (omega arith) (omega arith) told is)
-refused_status s (ending.Refused name) ends told is =
-    let refused = ends.0 in
-    (record { name = name.now; text = refused.text; read = refused.read; none = refused.none; told = same_status s 1 (not_yet_line name.now) (omega arith) told is }, ends.1)
+refused_status s (ending.Refused name fault) ends told is =
+    (record { name = name.now; mistake = seen fault; found = ends.0; told = same_status s 1 (refusal_line name.now (seen fault)) (omega arith) told is }, ends.1)
 refused_status s ending.VaultFailed ends told is = absurd (other_status s 74 vault_line 1 (omega arith) (omega arith) told is)
 refused_status s ending.OutputFailed ends told is = absurd (other_status s 74 output_line 1 (omega arith) (omega arith) told is)
 refused_status s ending.Memory ends told is = absurd (not_both s 71 1 (omega arith) told.0 is)
@@ -72,7 +72,7 @@ pub usage_status : (s : Seen) (e : Ending) → EndsIn s e → FinishesIn s e →
 usage_status s ending.Ran ends told is = absurd (not_both s 0 64 (omega arith) told.0 is)
 usage_status s ending.Usage ends told is = (ends.0, same_status s 64 usage_line (omega arith) told is, ends.1)
 usage_status s (ending.Absent name) ends told is = absurd (other_status s 66 (absent_line name.now) 64 (omega arith) (omega arith) told is)
-usage_status s (ending.Refused name) ends told is = absurd (other_status s 1 (not_yet_line name.now) 64 (omega arith) (omega arith) told is)
+usage_status s (ending.Refused name fault) ends told is = absurd (other_status s 1 (refusal_line name.now (seen fault)) 64 (omega arith) (omega arith) told is)
 usage_status s ending.VaultFailed ends told is = absurd (other_status s 74 vault_line 64 (omega arith) (omega arith) told is)
 usage_status s ending.OutputFailed ends told is = absurd (other_status s 74 output_line 64 (omega arith) (omega arith) told is)
 usage_status s ending.Memory ends told is = absurd (not_both s 71 64 (omega arith) told.0 is)
@@ -82,7 +82,7 @@ absent_status s ending.Ran ends told is = absurd (not_both s 0 66 (omega arith) 
 absent_status s ending.Usage ends told is = absurd (other_status s 64 usage_line 66 (omega arith) (omega arith) told is)
 absent_status s (ending.Absent name) ends told is =
     (ends.0, record { name = name.now; asked_for = ends.1; lacking = ends.2; told = same_status s 66 (absent_line name.now) (omega arith) told is }, ends.3)
-absent_status s (ending.Refused name) ends told is = absurd (other_status s 1 (not_yet_line name.now) 66 (omega arith) (omega arith) told is)
+absent_status s (ending.Refused name fault) ends told is = absurd (other_status s 1 (refusal_line name.now (seen fault)) 66 (omega arith) (omega arith) told is)
 absent_status s ending.VaultFailed ends told is = absurd (other_status s 74 vault_line 66 (omega arith) (omega arith) told is)
 absent_status s ending.OutputFailed ends told is = absurd (other_status s 74 output_line 66 (omega arith) (omega arith) told is)
 absent_status s ending.Memory ends told is = absurd (not_both s 71 66 (omega arith) told.0 is)
@@ -92,7 +92,7 @@ pub failed_status : (s : Seen) (e : Ending) → EndsIn s e → FinishesIn s e �
 failed_status s ending.Ran ends told is = absurd (not_both s 0 74 (omega arith) told.0 is)
 failed_status s ending.Usage ends told is = absurd (other_status s 64 usage_line 74 (omega arith) (omega arith) told is)
 failed_status s (ending.Absent name) ends told is = absurd (other_status s 66 (absent_line name.now) 74 (omega arith) (omega arith) told is)
-failed_status s (ending.Refused name) ends told is = absurd (other_status s 1 (not_yet_line name.now) 74 (omega arith) (omega arith) told is)
+failed_status s (ending.Refused name fault) ends told is = absurd (other_status s 1 (refusal_line name.now (seen fault)) 74 (omega arith) (omega arith) told is)
 failed_status s ending.VaultFailed ends told is =
     let asks = ends.1 in
     inl (ends.0, record { name = asks.0; asked_for = asks.1; told = same_status s 74 vault_line (omega arith) told is }, ends.2)
@@ -100,18 +100,17 @@ failed_status s ending.OutputFailed ends told is = inr (ends.0, same_status s 74
 failed_status s ending.Memory ends told is = absurd (not_both s 71 74 (omega arith) told.0 is)
 
 -- ---- want of memory
-told_front : (s : Seen) (status : ℕ) (line : List ℕ) → status ≢ 71 → Due s.words line → ReportsIn s status line → s.status ≡ 71 → TellsFront s.words s.err_before s.err_now
+told_front : (s : Seen) (status : ℕ) (line : List ℕ) → status ≢ 71 → Due s.words s.texts line → ReportsIn s status line → s.status ≡ 71 → TellsFront s.words s.texts s.err_before s.err_now
 told_front s status line other due (inl told) is = absurd (other (sym told.0 ∙ is))
 told_front s status line other due (inr (is_memory, inl front)) is = (line, due, front)
 told_front s status line other due (inr (is_memory, inr front)) is = (memory_line, Due.out_of_memory, front)
 
-pub memory_status : (s : Seen) (e : Ending) → EndsIn s e → FinishesIn s e → s.status ≡ 71 → PutsFront s.words s.texts s.out_before s.out_now × TellsFront s.words s.err_before s.err_now
+pub memory_status : (s : Seen) (e : Ending) → EndsIn s e → FinishesIn s e → s.status ≡ 71 → PutsFront s.words s.texts s.out_before s.out_now × TellsFront s.words s.texts s.err_before s.err_now
 memory_status s ending.Ran ends told is = absurd (not_both s 0 71 (omega arith) told.0 is)
 memory_status s ending.Usage ends told is = (inl ends.1, told_front s 64 usage_line (omega arith) (Due.usage ends.0) told is)
 memory_status s (ending.Absent name) ends told is = (inl ends.3, told_front s 66 (absent_line name.now) (omega arith) (Due.absent ends.1) told is)
-memory_status s (ending.Refused name) ends told is =
-    let refused = ends.0 in
-    (inl ends.1, told_front s 1 (not_yet_line name.now) (omega arith) (Due.refusal refused.read.asked_for) told is)
+memory_status s (ending.Refused name fault) ends told is =
+    (inl ends.1, told_front s 1 (refusal_line name.now (seen fault)) (omega arith) (Due.refusal ends.0) told is)
 memory_status s ending.VaultFailed ends told is =
     let asks = ends.1 in
     (inl ends.2, told_front s 74 vault_line (omega arith) (Due.vault_fault asks.1) told is)

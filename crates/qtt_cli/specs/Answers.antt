@@ -1,10 +1,13 @@
 -- What holds of the outside where a status is answered.
-use Rattle.std.specs.Prelude.{◌≡◌, ℕ, List, [], ◌++◌, ◌⊎◌, Option, Some, None, codes, IfSome, String}
+use Rattle.std.specs.Prelude.{◌≡◌, ℕ, List, [], ◌++◌, ◌⊎◌, Option, Some, None, Ok, Err, codes, IfSome, String}
 use Rattle.std.specs.declared.alloc.Global.{Global}
 use Rattle.qtt_edge.specs.Counts.{Rose}
 use Rattle.qtt_edge.specs.Sink.{Adds, AddsFront}
+use Rattle.qtt_lexer.specs.Lexed.{Mistake}
 use Rattle.qtt_cli.specs.Words.{asked}
-use Rattle.qtt_cli.specs.Smallest.{line, Smallest, output}
+use Rattle.qtt_cli.specs.Reading.{reading}
+use Rattle.qtt_cli.specs.Messages.{message}
+use Rattle.qtt_cli.specs.Smallest.{line, output}
 
 -- what a vault may tell: the text of each name that has one
 abbrev pub Texts : Type 0
@@ -17,8 +20,8 @@ usage_line = line (codes "usage: qtt COMMAND MODULE [--steps N] [--budget N] [--
 abbrev pub absent_line : List ℕ → List ℕ
 absent_line name = line (codes "module " ++ name ++ codes " not found")
 
-abbrev pub not_yet_line : List ℕ → List ℕ
-not_yet_line name = line (name ++ codes ":1:1: 0 NotYet")
+abbrev pub refusal_line : List ℕ → Mistake → List ℕ
+refusal_line name m = line (message name m)
 
 abbrev pub vault_line : List ℕ
 vault_line = line (codes "vault failed")
@@ -38,20 +41,25 @@ pub record Read (words : List (String Global)) (texts : Texts) (name text : List
   pub asked_for : asked words ≡ Some name
   pub held : IfSome texts (λ f. f name ≡ Some text)
 
--- it is the text of a smallest program that puts these lines
+-- reading it gives the program that puts these lines
 pub record Accepts (words : List (String Global)) (texts : Texts) (ts : List (List ℕ)) : Type 0 where
   pub name : List ℕ
   pub text : List ℕ
   pub read : Read words texts name text
-  pub smallest : Smallest name text ts
+  pub program : reading name text ≡ Ok ts
 
--- it is the text of no such program, and err is told so
-pub record Refuses (words : List (String Global)) (texts : Texts) (tells : List ℕ → Type 0) : Type 0 where
-  pub name : List ℕ
+-- reading it gives this fault
+pub record HasFault (words : List (String Global)) (texts : Texts) (name : List ℕ) (m : Mistake) : Type 0 where
   pub text : List ℕ
   pub read : Read words texts name text
-  pub none : (ts : List (List ℕ)) → Smallest name text ts → ⊥
-  pub told : tells (not_yet_line name)
+  pub fault : reading name text ≡ Err m
+
+-- reading it gives a fault, and err is told so
+pub record Refuses (words : List (String Global)) (texts : Texts) (tells : List ℕ → Type 0) : Type 0 where
+  pub name : List ℕ
+  pub mistake : Mistake
+  pub found : HasFault words texts name mistake
+  pub told : tells (refusal_line name mistake)
 
 -- the words ask for a module, whose reading failed, and err is told so
 pub record Fails (words : List (String Global)) (tells : List ℕ → Type 0) : Type 0 where
@@ -66,19 +74,19 @@ pub record Misses (words : List (String Global)) (texts : Texts) (tells : List �
   pub lacking : IfSome texts (λ f. f name ≡ None)
   pub told : tells (absent_line name)
 
--- out gained a front of what a smallest program puts: of nothing, or of the lines of the text that was read
+-- out gained a front of what the program puts: of nothing, or of the lines of the text that was read
 abbrev pub PutsFront : List (String Global) → Texts → Option (List ℕ) → Option (List ℕ) → Type 0
 PutsFront words texts old new = Adds old new [] ⊎ ((ts : List (List ℕ)) × Accepts words texts ts × AddsFront old new (output ts))
 
 -- the lines that may be due on err
-pub data Due (words : List (String Global)) : List ℕ → Type 0 where
-  out_of_memory : Due words memory_line
-  usage : asked words ≡ None → Due words usage_line
-  absent : {name : List ℕ} → asked words ≡ Some name → Due words (absent_line name)
-  refusal : {name : List ℕ} → asked words ≡ Some name → Due words (not_yet_line name)
-  vault_fault : {name : List ℕ} → asked words ≡ Some name → Due words vault_line
-  output_fault : {name : List ℕ} → asked words ≡ Some name → Due words output_line
+pub data Due (words : List (String Global)) (texts : Texts) : List ℕ → Type 0 where
+  out_of_memory : Due words texts memory_line
+  usage : asked words ≡ None → Due words texts usage_line
+  absent : {name : List ℕ} → asked words ≡ Some name → Due words texts (absent_line name)
+  refusal : {name : List ℕ} {m : Mistake} → HasFault words texts name m → Due words texts (refusal_line name m)
+  vault_fault : {name : List ℕ} → asked words ≡ Some name → Due words texts vault_line
+  output_fault : {name : List ℕ} → asked words ≡ Some name → Due words texts output_line
 
 -- err gained a front of one line that may be due
-abbrev pub TellsFront : List (String Global) → Option (List ℕ) → Option (List ℕ) → Type 0
-TellsFront words old new = (due : List ℕ) × Due words due × AddsFront old new due
+abbrev pub TellsFront : List (String Global) → Texts → Option (List ℕ) → Option (List ℕ) → Type 0
+TellsFront words texts old new = (due : List ℕ) × Due words texts due × AddsFront old new due

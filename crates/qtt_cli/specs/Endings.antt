@@ -1,33 +1,30 @@
 -- What each ending means: what holds of the words, the text and the output, and what is told.
-use Rattle.std.specs.Prelude.{◌≡◌, ℕ, List, [], ◌⊎◌, Option, Some, None, IfSome, String}
+use Rattle.std.specs.Prelude.{◌≡◌, ℕ, List, [], ◌⊎◌, Option, Some, None, Ok, Err, IfSome, String}
 use Rattle.std.specs.declared.alloc.Global.{Global}
 use Rattle.qtt_edge.specs.Sink.{Adds, AddsFront}
+use Rattle.qtt_lexer.specs.Lexed.{seen}
 use Rattle.qtt_cli.specs.declared.ending.Ending.{Ending}
 use Rattle.qtt_cli.specs.declared.ending.Ending.TheVariants as ending
 use Rattle.qtt_cli.specs.Words.{asked}
-use Rattle.qtt_cli.specs.Smallest.{Smallest, output}
-use Rattle.qtt_cli.specs.Answers.{Texts, Read, Accepts, PutsFront, Tells, usage_line, absent_line, not_yet_line, vault_line, output_line, memory_line}
+use Rattle.qtt_cli.specs.Reading.{reading}
+use Rattle.qtt_cli.specs.Smallest.{output}
+use Rattle.qtt_cli.specs.Answers.{Texts, Accepts, HasFault, PutsFront, Tells, usage_line, absent_line, refusal_line, vault_line, output_line, memory_line}
 
 -- out gained the output of this text, or its first bytes
 abbrev pub GainsOutput : List ℕ → List ℕ → Option (List ℕ) → Option (List ℕ) → Type 0
-GainsOutput name text old new = (ts : List (List ℕ)) × Smallest name text ts × Adds old new (output ts)
+GainsOutput name text old new = (ts : List (List ℕ)) × (reading name text ≡ Ok ts) × Adds old new (output ts)
 
 abbrev pub GainsFront : List ℕ → List ℕ → Option (List ℕ) → Option (List ℕ) → Type 0
-GainsFront name text old new = (ts : List (List ℕ)) × Smallest name text ts × AddsFront old new (output ts)
+GainsFront name text old new = (ts : List (List ℕ)) × (reading name text ≡ Ok ts) × AddsFront old new (output ts)
 
 -- how the run of this text may end, where `fault` says that a fault of out rose
 abbrev pub EndsText : List ℕ → List ℕ → Type 0 → Option (List ℕ) → Option (List ℕ) → Ending → Type 0
 EndsText name text fault old new ending.Ran = GainsOutput name text old new
-EndsText name text fault old new (ending.Refused refused) = (refused.now ≡ name) × ((ts : List (List ℕ)) → ¬ Smallest name text ts) × Adds old new []
+EndsText name text fault old new (ending.Refused refused found) =
+    (refused.now ≡ name) × (reading name text ≡ Err (seen found)) × Adds old new []
 EndsText name text fault old new ending.OutputFailed = fault × GainsFront name text old new
 EndsText name text fault old new ending.Memory = Adds old new [] ⊎ GainsFront name text old new
 EndsText name text fault old new _ = ⊥
-
--- the words ask for a module whose text is of no smallest program
-pub record IsRefused (words : List (String Global)) (texts : Texts) (name : List ℕ) : Type 0 where
-  pub text : List ℕ
-  pub read : Read words texts name text
-  pub none : (ts : List (List ℕ)) → ¬ Smallest name text ts
 
 -- whether faults and misses of the vault, and faults of the output, rose
 pub record Faults : Type 1 where
@@ -40,7 +37,7 @@ abbrev pub Ends : List (String Global) → Texts → Faults → Option (List ℕ
 Ends words texts faults old new ending.Ran = (ts : List (List ℕ)) × Accepts words texts ts × Adds old new (output ts)
 Ends words texts faults old new ending.Usage = (asked words ≡ None) × Adds old new []
 Ends words texts faults old new (ending.Absent name) = faults.miss × (asked words ≡ Some name.now) × IfSome texts (λ f. f name.now ≡ None) × Adds old new []
-Ends words texts faults old new (ending.Refused name) = IsRefused words texts name.now × Adds old new []
+Ends words texts faults old new (ending.Refused name found) = HasFault words texts name.now (seen found) × Adds old new []
 Ends words texts faults old new ending.VaultFailed = faults.vault × ((name : List ℕ) × (asked words ≡ Some name)) × Adds old new []
 Ends words texts faults old new ending.OutputFailed = faults.output × ((ts : List (List ℕ)) × Accepts words texts ts × AddsFront old new (output ts))
 Ends words texts faults old new ending.Memory = PutsFront words texts old new
@@ -55,7 +52,7 @@ abbrev pub Finishes : Ending → ℕ → Option (List ℕ) → Option (List ℕ)
 Finishes ending.Ran result old new before now = (result ≡ 0) × Adds old new []
 Finishes ending.Usage result old new before now = Reports 64 usage_line result old new before now
 Finishes (ending.Absent name) result old new before now = Reports 66 (absent_line name.now) result old new before now
-Finishes (ending.Refused name) result old new before now = Reports 1 (not_yet_line name.now) result old new before now
+Finishes (ending.Refused name found) result old new before now = Reports 1 (refusal_line name.now (seen found)) result old new before now
 Finishes ending.VaultFailed result old new before now = Reports 74 vault_line result old new before now
 Finishes ending.OutputFailed result old new before now = Reports 74 output_line result old new before now
 Finishes ending.Memory result old new before now = (result ≡ 71) × AddsFront old new memory_line

@@ -2,7 +2,11 @@ pub mod Answers
 pub mod Components
 pub mod Endings
 pub mod Examples
+pub mod Hello
+pub mod HelloAnswer
 pub mod Laws
+pub mod Messages
+pub mod ReadAnswer
 pub mod Reading
 pub mod Running
 pub mod Smallest

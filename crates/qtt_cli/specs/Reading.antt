@@ -1,15 +1,99 @@
--- How the text of a smallest program is read.
-use Rattle.std.specs.Prelude.{◌≡◌, ◌≤◌, ℕ, List, ◌++◌, length, codes}
-use Rattle.std.specs.List.{All}
-use Rattle.qtt_cli.specs.Smallest.{line, statements, PlainText}
+-- What reading a module's text gives: the lines that its program puts, or why it is refused.
+use Rattle.std.specs.Prelude.{ℕ, ◌+◌, Bool, ◌&&◌, not, nat_lt, if◌then◌else◌, List, [], ◌∷◌, length, Option, Some, None, Result, Ok, Err}
+use Rattle.std.specs.Str.{bytes_eq}
+use Rattle.qtt_base.specs.Limits.{standard, words_of}
+use Rattle.qtt_base.specs.declared.limits.Quantity.TheVariants.{TextBytes}
+use Rattle.qtt_base.specs.declared.place.ModuleId.{ModuleId}
+use Rattle.qtt_base.specs.declared.place.Span.{Span}
+use Rattle.qtt_lexer.specs.Lexed.{Mistake, lexed}
+use Rattle.qtt_layout.specs.Rules.{laid}
+use Rattle.qtt_syntax.specs.declared.module.Import.{Import}
+use Rattle.qtt_syntax.specs.Tree.{Module}
+use Rattle.qtt_syntax.specs.Tree.Module.{module_text}
+use Rattle.qtt_grammar.specs.Parsed.{parsed}
+use Rattle.qtt_names.specs.Answer as names
+use Rattle.qtt_names.specs.PrimNames.{scope_of, prim_name}
+use Rattle.qtt_names.specs.Resolved.{resolved}
+use Rattle.qtt_cli.specs.Hello.{lines_of}
 
--- the first three lines
-abbrev pub heading : List ℕ → List ℕ
-heading name = line (codes "module " ++ name) ++ line (codes "main : IO Unit") ++ line (codes "main = do")
+-- a value, or the first fault
+abbrev pub Reading : Type 0 → Type 0
+Reading A = Result A Mistake
 
--- the text is that of 1 to 500 statements that put these lines
-pub record Statements (text : List ℕ) (ts : List (List ℕ)) : Type 0 where
-  pub is : text ≡ statements ts
-  pub some : 1 ≤ length ts
-  pub few : length ts ≤ 500
-  pub plain : All PlainText ts
+infixl 10 ◌>>=◌
+-- the one, and then the other with its value; the first fault of the two is the fault of both
+abbrev pub ◌>>=◌ : {A B : Type 0} → Reading A → (A → Reading B) → Reading B
+Ok a >>= k = k a
+Err m >>= k = Err m
+
+-- 1:1
+abbrev pub front : Span
+front = record { line = 1; col = 1; len = 0 }
+
+-- a text of more bytes than a module's may have
+abbrev pub too_long : Mistake
+too_long = record { kind = 31; span = front; word = words_of TextBytes; count = standard.text_bytes + 1 }
+
+-- the header's name is not the asked one, or is Prim
+abbrev pub wrong_name : List ℕ → Span → Mistake
+wrong_name found span = record { kind = 32; span = span; word = found; count = 0 }
+
+-- what stands there is not built yet
+abbrev pub not_yet : Span → Mistake
+not_yet span = record { kind = 0; span = span; word = []; count = 0 }
+
+-- the text has few enough bytes
+abbrev pub fits : List ℕ → Reading (Unit {0})
+fits text = if nat_lt standard.text_bytes (length text) then Err too_long else Ok tt
+
+-- the name is the asked one, and not Prim
+abbrev pub is_asked : List ℕ → List ℕ → Bool
+is_asked asked n = bytes_eq n asked && not (bytes_eq n prim_name)
+
+-- the header has such a name
+abbrev pub has_name : List ℕ → Module → Reading (Unit {0})
+has_name asked (module_text h n ns is items) = if is_asked asked n then Ok tt else Err (wrong_name n ns)
+
+abbrev pub imports_nothing : List Import → Reading (Unit {0})
+imports_nothing [] = Ok tt
+imports_nothing (i ∷ more) = Err (not_yet i.span)
+
+-- the module stands alone
+abbrev pub stands_alone : Module → Reading (Unit {0})
+stands_alone (module_text h n ns is items) = imports_nothing is
+
+abbrev pub same_fault : names.Mistake → Mistake
+same_fault m = record { kind = m.kind; span = m.span; word = m.word; count = m.count }
+
+abbrev pub told : names.Answer Module → Reading Module
+told (Ok m) = Ok m
+told (Err e) = Err (same_fault e)
+
+-- the root module is module 1
+abbrev pub root : ModuleId
+root = record { 0 = 1 }
+
+-- the module with what its names stand for, where it imports nothing
+abbrev pub with_names : Module → Reading Module
+with_names m = told (resolved (scope_of root m []) m)
+
+abbrev pub built : Option (List (List ℕ)) → Reading (List (List ℕ))
+built None = Err (not_yet front)
+built (Some ts) = Ok ts
+
+-- the tree of a text
+unfoldable pub tree_of_text : List ℕ → Reading Module
+tree_of_text text = do
+  u ← fits text
+  tokens ← lexed text
+  marks ← laid tokens
+  parsed marks
+
+-- the lines that the module of this name and text puts
+unfoldable pub reading : List ℕ → List ℕ → Reading (List (List ℕ))
+reading name text = do
+  m ← tree_of_text text
+  u ← has_name name m
+  v ← stands_alone m
+  found ← with_names m
+  built (lines_of found)

@@ -1,22 +1,38 @@
 -- The words of the command line.
-use Rattle.std.specs.Prelude.{ℕ, List, [], ◌∷◌, map, length, Option, Some, None, Bool, false, ◌&&◌, not, nat_le, String, string_bytes, codes, if◌then◌else◌}
-use Rattle.std.specs.Char.{is_ascii_uppercase, is_ascii_alphanumeric}
-use Rattle.std.specs.List.{list_all}
+use Rattle.std.specs.Prelude.{ℕ, List, [], ◌∷◌, map, Option, Some, None, Bool, false, ◌&&◌, Result, Ok, Err, String, string_bytes, codes, if◌then◌else◌}
 use Rattle.std.specs.Str.{bytes_eq}
 use Rattle.std.specs.declared.alloc.Global.{Global}
+use Rattle.qtt_lexer.specs.Lexed.{Mistake, lexed}
+use Rattle.qtt_lexer.specs.declared.token.Token.{Token}
+use Rattle.qtt_lexer.specs.declared.token.TokenKind.{TokenKind}
+use Rattle.qtt_lexer.specs.declared.token.TokenKind.TheVariants as kind
 
-abbrev pub begins_upper : List ℕ → Bool
-begins_upper [] = false
-begins_upper (b ∷ bs) = is_ascii_uppercase b
+-- the token is the name that this word is
+abbrev pub is_named : List ℕ → TokenKind → Bool
+is_named word (kind.Name name) = bytes_eq name word
+is_named word _ = false
 
--- 1 to 255 ASCII letters and digits, the first an upper-case letter, and not the keyword Type
-abbrev pub is_module_name : List ℕ → Bool
-is_module_name bs = begins_upper bs && list_all is_ascii_alphanumeric bs && nat_le (length bs) 255 && not (bytes_eq bs (codes "Type"))
+-- the tokens are that name and the end
+abbrev pub is_only_name : List ℕ → List Token → Bool
+is_only_name word [] = false
+is_only_name word (t ∷ []) = false
+is_only_name word (t ∷ end ∷ []) = is_named word t.kind
+is_only_name word (t ∷ end ∷ u ∷ more) = false
+
+abbrev pub reads_as_name : List ℕ → Result (List Token) Mistake → Bool
+reads_as_name word (Ok tokens) = is_only_name word tokens
+reads_as_name word (Err m) = false
+
+-- the word is a name, and no keyword and no wildcard
+unfoldable pub is_module_name : List ℕ → Bool
+is_module_name word = reads_as_name word (lexed word)
 
 -- the name, where the words are `run` and a module's name
 abbrev pub asked_in : List (List ℕ) → Option (List ℕ)
+asked_in [] = None
+asked_in (command ∷ []) = None
 asked_in (command ∷ name ∷ []) = if bytes_eq command (codes "run") && is_module_name name then Some name else None
-asked_in words = None
+asked_in (command ∷ name ∷ word ∷ more) = None
 
 -- the module that the words ask to run
 abbrev pub asked : List (String Global) → Option (List ℕ)

@@ -1,15 +1,17 @@
 //! How the work ends, and what is told of it.
 
-ghost use Rattle.std.specs.Prelude.{◌≡◌, ◌⊎◌, MatchResult, string_bytes};
+ghost use Rattle.std.specs.Prelude.{◌≡◌, ◌⊎◌, IfOk, MatchResult};
 ghost use Rattle.qtt_edge.specs.Sink.{AddsFront};
-ghost use Rattle.qtt_cli.specs.Answers.{Tells, memory_line};
+ghost use Rattle.qtt_cli.specs.Answers.{Tells, absent_line, memory_line};
 ghost use Rattle.qtt_cli.specs.Endings.{Finishes, Reports};
 
+use crate::message::message;
+use qtt_base::Fault;
 use qtt_edge::{Sink, SinkError};
 use std::alloc::{AllocError, Global};
 
 /// How the work ended, with the name of the module where the line tells it.
-#[derive(Clone, Copy, Debug, PartialEq, Eq)]
+#[derive(Debug, Drop)]
 pub enum Ending<'a> {
     /// The program ran to its end.
     Ran,
@@ -17,8 +19,8 @@ pub enum Ending<'a> {
     Usage,
     /// The vault has no such module.
     Absent(&'a str),
-    /// The module's text is none of those that are built yet.
-    Refused(&'a str),
+    /// The module's text is refused for its first fault.
+    Refused(&'a str, Fault),
     VaultFailed,
     OutputFailed,
     Memory,
@@ -35,24 +37,29 @@ pub fn finish<E: Sink>(alloc: Global, err: &mut E, ending: Ending<'_>) -> u8
             64,
             b"usage: qtt COMMAND MODULE [--steps N] [--budget N] [--jobs N]\n",
         ),
-        Ending::Absent(name) => {
-            tell_text(err, 66, format!(in alloc; "module {name} not found\n"))
-        }
-        Ending::Refused(name) => tell_text(err, 1, format!(in alloc; "{name}:1:1: 0 NotYet\n")),
+        Ending::Absent(name) => tell_made(err, 66, absent_line(alloc, name)),
+        Ending::Refused(name, fault) => tell_made(err, 1, message(alloc, name, &fault)),
         Ending::VaultFailed => tell(err, 74, b"vault failed\n"),
         Ending::OutputFailed => tell(err, 74, b"output failed\n"),
         Ending::Memory => tell(err, 71, b"out of memory\n"),
     }
 }
 
+/// The line that tells of a missing module.
+fn absent_line(alloc: Global, name: &str) -> Result<Vec<u8>, AllocError>
+    ensures { IfOk result (λ text. text.items ≡ absent_line name.now) }
+{
+    Ok(format!(in alloc; "module {name} not found\n")?.into_bytes())
+}
+
 /// Puts a line, if there was memory for it, and gives the status, or that of want of memory.
-fn tell_text<E: Sink>(err: &mut E, status: u8, line: Result<String, AllocError>) -> u8
+fn tell_made<E: Sink>(err: &mut E, status: u8, line: Result<Vec<u8>, AllocError>) -> u8
     ensures { MatchResult line
-        (λ text. Reports status (string_bytes text) result (E.content err.old) (E.content err.new) (E.faults err.old) (E.faults err.new))
+        (λ text. Reports status text.items result (E.content err.old) (E.content err.new) (E.faults err.old) (E.faults err.new))
         (λ _. (result ≡ 71) × AddsFront (E.content err.old) (E.content err.new) memory_line) }
 {
     match line {
-        Ok(line) => tell(err, status, line.as_bytes()),
+        Ok(line) => tell(err, status, &line),
         Err(_) => tell(err, 71, b"out of memory\n"),
     }
 }

@@ -3,10 +3,13 @@
 
 mod core_term;
 mod ending;
+mod errors;
+mod hello;
 pub mod laws;
+mod message;
 mod parts;
+mod read;
 mod runner;
-mod smallest;
 #[cfg(test)]
 mod tests;
 mod words;
@@ -49,7 +52,7 @@ pub fn qtt_main<V: Vault, I: Source, O: Sink, E: Sink, T: Tapes, G: Gate>(
         (Rose (V.faults vault.old) (V.faults vault.new) × Fails words.now (Tells (E.content err.old) (E.content err.new) (E.faults err.old) (E.faults err.new)) × Adds (O.content out.old) (O.content out.new) [])
         ⊎ (Rose (O.faults out.old) (O.faults out.new) × Tells (E.content err.old) (E.content err.new) (E.faults err.old) (E.faults err.new) output_line
         × ((ts : List (List ℕ)) × Accepts words.now (V.texts vault.old) ts × AddsFront (O.content out.old) (O.content out.new) (output ts))) }
-    ensures memory { result ≡ 71 → PutsFront words.now (V.texts vault.old) (O.content out.old) (O.content out.new) × TellsFront words.now (E.content err.old) (E.content err.new) }
+    ensures memory { result ≡ 71 → PutsFront words.now (V.texts vault.old) (O.content out.old) (O.content out.new) × TellsFront words.now (V.texts vault.old) (E.content err.old) (E.content err.new) }
 
     // What is not touched.
     ensures texts_stay { V.texts vault.new ≡ V.texts vault.old }

@@ -76,31 +76,84 @@ fn lines_are_put_in_order(rt: HostRuntime) -> Result<(), Fail> {
 }
 
 #[test]
-fn the_empty_text_is_refused(rt: HostRuntime) -> Result<(), Fail> {
-    let left = run_main(rt.alloc(), b"", Vec::new(rt.alloc()))?;
-    assert!(rt; leaves(&left, 1, b"", b"Main:1:1: 0 NotYet\n"));
+fn comments_and_escapes_are_read(rt: HostRuntime) -> Result<(), Fail> {
+    let text =
+        b"{- one line -}\nmodule Main\n\nmain : IO Unit -- its type\nmain = do putLine \"a\\tb\"\n";
+    let left = run_main(rt.alloc(), text, Vec::new(rt.alloc()))?;
+    assert!(rt; leaves(&left, 0, b"a\tb\n", b""));
     Ok(())
 }
 
+/// Texts, each with what is told of it.
+const REFUSED: [(&[u8], &[u8]); 12] = [
+    (b"", b"Main:1:1: 8 Unexpected end\n"),
+    (
+        b"module Main\nx : Int\nx = 9223372036854775808\n",
+        b"Main:3:5: 5 NumberTooWide\n",
+    ),
+    (
+        b"module Other\n",
+        b"Main:1:8: 32 WrongModuleName expected Main found Other\n",
+    ),
+    (
+        b"module Main\nf : Int -> Int\nf x x = 1\n",
+        b"Main:3:5: 12 Duplicate x\n",
+    ),
+    (
+        b"module Main\nx : Int\nx = y\n",
+        b"Main:3:5: 10 Unbound y\n",
+    ),
+    (
+        b"module Main\nid : (1 x : Int) -> Int\nid x = x\nmain : IO Unit\nmain = putLine (showInt (id 3))\n",
+        b"Main:1:1: 0 NotYet\n",
+    ),
+    (b"module Main\nimport Lists\n", b"Main:2:1: 0 NotYet\n"),
+    (
+        b"module Other\nimport Lists\n",
+        b"Main:1:8: 32 WrongModuleName expected Main found Other\n",
+    ),
+    (
+        b"module Other\nx : Int\nx = y\n",
+        b"Main:1:8: 32 WrongModuleName expected Main found Other\n",
+    ),
+    (b"module Main\n#", b"Main:2:1: 2 BadCharacter U+0023\n"),
+    (b"  module Main\nx : Int\n", b"Main:2:1: 7 BadIndent\n"),
+    (b"module Main\n\xff", b"Main:2:1: 1 NotUtf8\n"),
+];
+
 #[test]
-fn texts_of_other_forms_are_refused(rt: HostRuntime) -> Result<(), Fail> {
-    let texts: [&[u8]; 5] = [
-        b"module Main\nmain : IO Unit\nmain = do\n",
-        b"module Other\nmain : IO Unit\nmain = do\n  putLine \"hello\"\n",
-        b"module Main\nmain : IO Unit\nmain = do\n  putLine \"hello\"",
-        b"module Main\nmain : IO Unit\nmain = do\n  putLine \"a\\n\"\n",
-        b"module Main\nmain : IO Unit\nmain = do\n  putLine \"a\"\n\n",
-    ];
-    for text in texts {
+fn other_texts_are_refused(rt: HostRuntime) -> Result<(), Fail> {
+    for (text, message) in REFUSED {
         let left = run_main(rt.alloc(), text, Vec::new(rt.alloc()))?;
-        assert!(rt; leaves(&left, 1, b"", b"Main:1:1: 0 NotYet\n"));
+        assert!(rt; leaves(&left, 1, b"", message));
     }
     Ok(())
 }
 
 #[test]
+fn a_long_text_is_refused(rt: HostRuntime) -> Result<(), Fail> {
+    let text = vec![in rt.alloc(); b' '; 1_048_577]?;
+    let left = run_main(rt.alloc(), &text, Vec::new(rt.alloc()))?;
+    assert!(rt;
+        leaves(
+            &left,
+            1,
+            b"",
+            b"Main:1:1: 31 Limit bytes of a module text 1048577\n"
+        )
+    );
+    Ok(())
+}
+
+#[test]
 fn other_words_tell_the_usage(rt: HostRuntime) -> Result<(), Fail> {
-    let words: [&[&str]; 3] = [&["run"], &["run", "main"], &["fly", "Main"]];
+    let words: [&[&str]; 5] = [
+        &["run"],
+        &["run", "_"],
+        &["run", "Type"],
+        &["run", "Main "],
+        &["fly", "Main"],
+    ];
     for words in words {
         let mut vault = vault_of(rt.alloc(), HELLO, Vec::new(rt.alloc()))?;
         let left = call(rt.alloc(), words, &mut vault, Vec::new(rt.alloc()))?;
@@ -118,14 +171,15 @@ fn other_words_tell_the_usage(rt: HostRuntime) -> Result<(), Fail> {
 
 #[test]
 fn a_missing_module_is_told(rt: HostRuntime) -> Result<(), Fail> {
-    let mut vault = vault_of(rt.alloc(), HELLO, Vec::new(rt.alloc()))?;
-    let left = call(
-        rt.alloc(),
-        &["run", "Gone"],
-        &mut vault,
-        Vec::new(rt.alloc()),
-    )?;
-    assert!(rt; leaves(&left, 66, b"", b"module Gone not found\n"));
+    let modules: [(&str, &[u8]); 2] = [
+        ("main", b"module main not found\n"),
+        ("Data.Lists", b"module Data.Lists not found\n"),
+    ];
+    for (name, message) in modules {
+        let mut vault = vault_of(rt.alloc(), HELLO, Vec::new(rt.alloc()))?;
+        let left = call(rt.alloc(), &["run", name], &mut vault, Vec::new(rt.alloc()))?;
+        assert!(rt; leaves(&left, 66, b"", message));
+    }
     Ok(())
 }
 

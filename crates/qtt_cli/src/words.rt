@@ -1,43 +1,56 @@
 //! The words of the command line.
 
-ghost use Rattle.std.specs.Prelude.{◌≡◌, option_map};
-ghost use Rattle.std.specs.Char.{is_ascii_alphanumeric};
-ghost use Rattle.std.specs.List.{list_all};
-ghost use Rattle.qtt_cli.specs.Words.{asked, is_module_name, begins_upper};
+ghost use Rattle.std.specs.Prelude.{◌≡◌, ◌<◌, ◌^◌, IfOk, option_map, length};
+ghost use Rattle.qtt_cli.specs.Words.{asked, is_module_name, is_only_name, is_named};
 
-/// The greatest number of bytes of a module's name.
-const MAX_NAME: usize = 255;
+use qtt_base::MemoryError;
+use qtt_lexer::{LexError, Token, TokenKind, lex};
+use std::alloc::Global;
 
-/// The module that the words ask to run.
-pub fn asked_name(words: &[String]) -> Option<&str>
-    ensures { option_map (λ name. name.now) result ≡ asked words.now }
+/// The greatest number of bytes of a word that is read.
+const MAX_WORD: usize = (1 << 29) - 1;
+
+/// The module that the words ask to run. A word of 2^29 bytes or more in its place is want of memory.
+pub fn asked_name(alloc: Global, words: &[String]) -> Result<Option<&str>, MemoryError>
+    ensures { IfOk result (λ found. option_map (λ name. name.now) found ≡ asked words.now) }
 {
     match words {
-        [command, name] if command.as_str() == "run" && is_module_name(name.as_bytes()) => {
-            Some(name.as_str())
+        [command, name] if command.as_str() == "run" && is_module_name(alloc, name.as_str())? => {
+            Ok(Some(name.as_str()))
         }
-        _ => None,
+        _ => Ok(None),
     }
 }
 
-/// Whether these bytes are the name of a module.
-fn is_module_name(name: &[u8]) -> bool
-    ensures { result ≡ is_module_name name.now }
+/// Whether a word is the name of a module.
+fn is_module_name(alloc: Global, word: &str) -> Result<bool, MemoryError>
+    ensures { IfOk result (λ is. is ≡ is_module_name word.now) }
 {
-    begins_upper(name)
-        && is_alphanumeric(name)
-        && name.len() <= MAX_NAME
-        && name != b"Type".as_slice()
+    if word.len() > MAX_WORD {
+        return Err(MemoryError);
+    }
+    match lex(alloc, word.as_bytes()) {
+        Ok(tokens) => Ok(is_only_name(word, &tokens)),
+        Err(LexError::Fault(_)) => Ok(false),
+        Err(LexError::Memory) => Err(MemoryError),
+    }
 }
 
-fn begins_upper(name: &[u8]) -> bool
-    ensures { result ≡ begins_upper name.now }
+/// Whether the tokens of a word are the name that it is, and the end.
+fn is_only_name(word: &str, tokens: &[Token]) -> bool
+    ensures { result ≡ is_only_name word.now tokens.now }
 {
-    name.first().is_some_and(u8::is_ascii_uppercase)
+    match tokens {
+        [token, _] => is_named(word, &token.kind),
+        _ => false,
+    }
 }
 
-fn is_alphanumeric(name: &[u8]) -> bool
-    ensures { result ≡ list_all is_ascii_alphanumeric name.now }
+fn is_named(word: &str, kind: &TokenKind) -> bool
+    ensures { result ≡ is_named word.now kind.now }
 {
-    name.iter().all(u8::is_ascii_alphanumeric)
+    match kind {
+        TokenKind::Name(name) => name.as_str() == word,
+        _ => false,
+    }
 }

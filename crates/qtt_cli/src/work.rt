@@ -1,6 +1,6 @@
 //! What the words ask for.
 
-ghost use Rattle.std.specs.Prelude.{◌≡◌, ◌≤◌, ℕ, List, None, IfOk, OnOk, OnErr, IsErrOf, length};
+ghost use Rattle.std.specs.Prelude.{◌≡◌, ◌≤◌, ◌⊎◌, ℕ, List, None, IfOk, OnOk, OnErr, IsErrOf, length};
 ghost use Rattle.qtt_edge.specs.Counts.{Rose, Counts};
 ghost use Rattle.qtt_edge.specs.Sink.{Adds, AddsFront};
 ghost use Rattle.qtt_cli.specs.Words.{asked};
@@ -9,8 +9,9 @@ ghost use Rattle.qtt_cli.specs.Endings.{Ends, EndsText};
 
 use crate::core_term::main_core;
 use crate::ending::Ending;
+use crate::errors::ReadError;
+use crate::read::{MAX_MODULE, read};
 use crate::runner::run;
-use crate::smallest::{MAX_MODULE, read_lines};
 use crate::words::asked_name;
 use qtt_edge::{Sink, SinkError, Vault, VaultError};
 use qtt_prims::Text;
@@ -24,10 +25,13 @@ pub fn work<'a, V: Vault, O: Sink>(
     out: &mut O,
 ) -> Ending<'a>
     ensures ends { Ends words.now (V.texts vault.old) (record { vault = Rose (V.faults vault.old) (V.faults vault.new); miss = Rose (V.misses vault.old) (V.misses vault.new); output = Rose (O.faults out.old) (O.faults out.new) }) (O.content out.old) (O.content out.new) result }
-    ensures usage { asked words.now ≡ None → result ≡ Ending.Usage }
+    ensures usage { asked words.now ≡ None → (result ≡ Ending.Usage) ⊎ (result ≡ Ending.Memory) }
     ensures texts { V.texts vault.new ≡ V.texts vault.old }
 {
-    let Some(name) = asked_name(words) else {
+    let Ok(asked) = asked_name(alloc, words) else {
+        return Ending::Memory;
+    };
+    let Some(name) = asked else {
         return Ending::Usage;
     };
     match vault.read(alloc, name, MAX_MODULE + 1) {
@@ -42,11 +46,10 @@ pub fn work<'a, V: Vault, O: Sink>(
 fn run_text<'a, O: Sink>(alloc: Global, name: &'a str, text: &[u8], out: &mut O) -> Ending<'a>
     ensures { EndsText name.now text.now (Rose (O.faults out.old) (O.faults out.new)) (O.content out.old) (O.content out.new) result }
 {
-    let Ok(read) = read_lines(alloc, name, text) else {
-        return Ending::Memory;
-    };
-    let Some(lines) = read else {
-        return Ending::Refused(name);
+    let lines = match read(alloc, name, text) {
+        Ok(lines) => lines,
+        Err(ReadError::Fault(fault)) => return Ending::Refused(name, fault),
+        Err(ReadError::Memory) => return Ending::Memory,
     };
     match run_lines(alloc, lines, out) {
         Ok(()) => Ending::Ran,
