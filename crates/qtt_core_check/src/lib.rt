@@ -14,3 +14,5 @@ pub mod rows;
 pub mod scope;
 pub mod signatures;
 mod telescopes;
+#[cfg(test)]
+mod tests;
