@@ -15,3 +15,8 @@ pub level_is : (pass : Pass) (n : ℕ) → levels_at pass n ≡ level_at pass (n
 unfolding below levels_at
 level_is pass zero = refl
 level_is pass (suc n) = let e : nat_lt 0 (suc n) ≡ true = grind (arith, nat_tests) in rw e refl
+
+-- a level may open where one is left
+pub opens : (n : ℕ) → 0 < n → nat_lt 0 n ≡ true
+opens zero h = absurd (omega arith)
+opens (suc n) h = grind (arith, nat_tests)

@@ -77,7 +77,7 @@ abbrev pub implies : Bool → Bool → Bool
 implies true b = b
 implies false b = true
 
-implied : (a b : Bool) → implies a b ≡ true → a ≡ true → b ≡ true
+pub implied : (a b : Bool) → implies a b ≡ true → a ≡ true → b ≡ true
 implied true b e h = e
 implied false b e h = absurd cc
 
@@ -85,7 +85,7 @@ abbrev pub not : Bool → Bool
 not true = false
 not false = true
 
-refuted : (b : Bool) → not b ≡ true → b ≡ false
+pub refuted : (b : Bool) → not b ≡ true → b ≡ false
 refuted true e = absurd cc
 refuted false e = refl
 

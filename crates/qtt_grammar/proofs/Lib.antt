@@ -35,3 +35,12 @@ pub mod ChainItems
 pub mod ChainTrees
 pub mod ChainModules
 pub mod Outcomes
+pub mod ChainBelow
+pub mod TokenPlaces
+pub mod Entries
+pub mod Caps
+pub mod Parses
+pub mod Deeper
+pub mod Deepest
+pub mod BadTokens
+pub mod ChainLoops

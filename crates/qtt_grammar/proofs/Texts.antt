@@ -43,35 +43,49 @@ one_tree pass ls t u m n = let x = text_whole pass ls t None m in let y = text_w
 
 -- ---- the three answers
 
-no_text : (pass : Pass) (ls : List Lexeme) (r : TextRead) → text_at pass ls ≡ r → ((t : Module) (o : Option Excess) → Judged o t [] r → ⊥) → (t : Module) (o : Option Excess) → IsText pass ls t o → ⊥
+pub no_text : (pass : Pass) (ls : List Lexeme) (r : TextRead) → text_at pass ls ≡ r → ((t : Module) (o : Option Excess) → Judged o t [] r → ⊥) → (t : Module) (o : Option Excess) → IsText pass ls t o → ⊥
 no_text pass ls r e h t o m = h t o (subst (λ (q : TextRead). Judged o t [] q) e (text_whole pass ls t o m))
 
-long_none : (a : Module) (x : Lexeme) (rest : List Lexeme) (t : Module) (o : Option Excess) → Judged o t [] (got a (x ∷ rest)) → ⊥
+pub long_none : (a : Module) (x : Lexeme) (rest : List Lexeme) (t : Module) (o : Option Excess) → Judged o t [] (got a (x ∷ rest)) → ⊥
 long_none a x rest t None j = cc
 long_none a x rest t (Some f) (w, j) = cc
 
-bad_none : (k : Kind) (rest : List Lexeme) (t : Module) (o : Option Excess) → Judged o t [] (bad k rest) → ⊥
+pub bad_none : (k : Kind) (rest : List Lexeme) (t : Module) (o : Option Excess) → Judged o t [] (bad k rest) → ⊥
 bad_none k rest t None j = cc
 bad_none k rest t (Some f) (w, j) = cc
 
 over_none : (e : Excess) (rest : List Lexeme) (t : Module) → Judged None t [] (over e rest) → ⊥
 over_none e rest t j = cc
 
-answer_by : (pass : Pass) (ls : List Lexeme) (r : TextRead) → text_at pass ls ≡ r → HasAnswer pass ls
-answer_by pass ls (got t []) e =
-    is_text t (found (IsText pass) nothing (text_at pass) (text_exact nowhere pass) (text_some nowhere pass) ls t e)
-    (λ f st. got_settles_none (IsText pass) nothing (text_at pass) (text_exact nowhere pass) (text_some nowhere pass) ls t [] f e st)
-answer_by pass ls (got t (x ∷ rest)) e =
-    is_bad (x ∷ rest) (got_first (IsText pass) nothing (text_at pass) (text_exact nowhere pass) (text_some nowhere pass) ls t x rest e)
-    (λ f st. got_settles_none (IsText pass) nothing (text_at pass) (text_exact nowhere pass) (text_some nowhere pass) ls t (x ∷ rest) f e st)
-    (no_text pass ls (got t (x ∷ rest)) e (long_none t x rest))
-answer_by pass ls (bad k rest) e =
-    is_bad rest (bad_first (IsText pass) nothing (text_at pass) (text_exact nowhere pass) (text_some nowhere pass) ls k rest e)
-    (λ f st. bad_settles_none (IsText pass) nothing (text_at pass) (text_exact (elsewhere f.place) pass) (text_some (elsewhere f.place) pass) ls k rest f e (apart_from f.place) st)
-    (no_text pass ls (bad k rest) e (bad_none k rest))
-answer_by pass ls (over f rest) e =
-    is_excess f (over_settles (IsText pass) nothing (text_at pass) (text_exact nowhere pass) (text_some nowhere pass) ls f rest e)
-    (λ t m. over_none f rest t (subst (λ (q : TextRead). Judged None t [] q) e (text_whole pass ls t None m)))
+-- ---- what reading settles
+
+module _ (pass : Pass) (ls : List Lexeme) where
+  pub text_found : (t : Module) → text_at pass ls ≡ got t [] → IsText pass ls t None
+  text_found t e = found (IsText pass) nothing (text_at pass) (text_exact nowhere pass) (text_some nowhere pass) ls t e
+
+  pub got_first_bad : (t : Module) (x : Lexeme) (rest : List Lexeme) → text_at pass ls ≡ got t (x ∷ rest) → FirstBad (IsText pass) ls (x ∷ rest)
+  got_first_bad t x rest e = got_first (IsText pass) nothing (text_at pass) (text_exact nowhere pass) (text_some nowhere pass) ls t x rest e
+
+  pub got_within : (t : Module) (rest : List Lexeme) → text_at pass ls ≡ got t rest → (f : Excess) → Settles (IsText pass) ls f → ⊥
+  got_within t rest e f st = got_settles_none (IsText pass) nothing (text_at pass) (text_exact nowhere pass) (text_some nowhere pass) ls t rest f e st
+
+  pub bad_first_bad : (k : Kind) (rest : List Lexeme) → text_at pass ls ≡ bad k rest → FirstBad (IsText pass) ls rest
+  bad_first_bad k rest e = bad_first (IsText pass) nothing (text_at pass) (text_exact nowhere pass) (text_some nowhere pass) ls k rest e
+
+  pub bad_within : (k : Kind) (rest : List Lexeme) → text_at pass ls ≡ bad k rest → (f : Excess) → Settles (IsText pass) ls f → ⊥
+  bad_within k rest e f st = bad_settles_none (IsText pass) nothing (text_at pass) (text_exact (elsewhere f.place) pass) (text_some (elsewhere f.place) pass) ls k rest f e (apart_from f.place) st
+
+  pub over_passes : (f : Excess) (rest : List Lexeme) → text_at pass ls ≡ over f rest → Settles (IsText pass) ls f
+  over_passes f rest e = over_settles (IsText pass) nothing (text_at pass) (text_exact nowhere pass) (text_some nowhere pass) ls f rest e
+
+  pub text_read : (t : Module) → IsText pass ls t None → text_at pass ls ≡ got t []
+  text_read t m = text_whole pass ls t None m
+
+  answer_by : (r : TextRead) → text_at pass ls ≡ r → HasAnswer pass ls
+  answer_by (got t []) e = is_text t (text_found t e) (got_within t [] e)
+  answer_by (got t (x ∷ rest)) e = is_bad (x ∷ rest) (got_first_bad t x rest e) (got_within t (x ∷ rest) e) (no_text pass ls (got t (x ∷ rest)) e (long_none t x rest))
+  answer_by (bad k rest) e = is_bad rest (bad_first_bad k rest e) (bad_within k rest e) (no_text pass ls (bad k rest) e (bad_none k rest))
+  answer_by (over f rest) e = is_excess f (over_passes f rest e) (λ t m. over_none f rest t (subst (λ (q : TextRead). Judged None t [] q) e (text_read t m)))
 
 pub has_answer : (pass : Pass) (ls : List Lexeme) → HasAnswer pass ls
 has_answer pass ls = answer_by pass ls (text_at pass ls) refl

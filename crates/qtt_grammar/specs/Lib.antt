@@ -5,6 +5,7 @@ pub mod Grammar
 pub mod Readers
 pub mod View
 pub mod Answer
+pub mod Parsed
 pub mod Examples
 pub mod Sketch
 pub mod Unplaced
@@ -12,3 +13,6 @@ pub mod Spelled
 pub mod Chain
 pub mod ChainReaders
 pub mod Outcome
+pub mod ChainView
+pub mod Joined
+pub mod ChainExamples

@@ -1,5 +1,5 @@
 -- What the code's readers answer.
-use Rattle.std.specs.Prelude.{◌≡◌, ℕ, zero, suc, ◌<◌, nat_lt, Bool, List, [], ◌∷◌, ◌++◌, Result, Ok, Err}
+use Rattle.std.specs.Prelude.{◌≡◌, ℕ, zero, suc, ◌<◌, ◌==◌, nat_lt, Bool, List, [], ◌∷◌, ◌++◌, length, map, Result, Ok, Err}
 use Rattle.std.specs.Borrow.{Bor}
 use Rattle.qtt_base.specs.declared.place.Span.{Span}
 use Rattle.qtt_phrase.specs.Reading.{Kind, Read, ◌>>=◌}
@@ -11,9 +11,14 @@ use Rattle.qtt_grammar.specs.declared.stop.Reason.{Reason}
 use Rattle.qtt_grammar.specs.declared.stop.Reason.TheVariants as reason
 use Rattle.qtt_grammar.specs.declared.stop.Stop.{Stop}
 use Rattle.qtt_grammar.specs.declared.stop.Stop.TheVariants as stop
-use Rattle.qtt_syntax.specs.View.{tree_of, written_type}
+use Rattle.qtt_syntax.specs.View.{tree_of, written_type, item_of}
+use Rattle.qtt_syntax.specs.Tree.{Item}
+use Rattle.qtt_syntax.specs.declared.module.Import.{Import}
 use Rattle.qtt_syntax.specs.declared.expr.Expr.{Expr}
-use Rattle.qtt_grammar.specs.Grammar.{LetParts}
+use Rattle.qtt_grammar.specs.Grammar.{LetParts, Place, Entry, imported, listed, imports_of, items_of}
+use Rattle.qtt_grammar.specs.declared.body.Body.{Body}
+use Rattle.qtt_grammar.specs.declared.body.Entry as code
+use Rattle.qtt_grammar.specs.declared.body.Entry.TheVariants as entry
 use Rattle.qtt_grammar.specs.declared.block.LetHead.{LetHead}
 use Rattle.qtt_grammar.specs.declared.lexeme.Lexeme.{Lexeme}
 use Rattle.qtt_grammar.specs.Readers.{LevelReader, simple_reader, levels_at}
@@ -77,3 +82,31 @@ ReadsBelow pass n gives = (m : ℕ) (tail : Bool) (rest : Rest) (answer : Result
 -- what a `let` binds
 abbrev pub let_parts_of : LetHead → LetParts
 let_parts_of h = (h.span, (h.mult, (h.name, (written_type h.ty, tree_of h.value))))
+
+-- ---- what stands behind a header
+
+abbrev pub entry_of : code.Entry → Entry
+entry_of (entry.Import i) = imported i
+entry_of (entry.Item i) = listed (item_of i)
+
+-- where among the items a reader is behind these
+abbrev pub place_of : Body → Place
+place_of b = record { at_imports = length b.items.items == 0; items = length b.items.items; clauses_of = b.clauses_of; clauses = b.clauses }
+
+-- imports and items apart
+abbrev pub Parts : Type 0
+Parts = List Import × List Item
+
+abbrev pub parts_of : List Entry → Parts
+parts_of es = (imports_of es, items_of es)
+
+abbrev pub body_of : Body → Parts
+body_of b = (b.imports.items, map item_of b.items.items)
+
+-- further entries behind those
+abbrev pub joined_body : Parts → List Entry → Parts
+joined_body (is, ts) es = (is ++ imports_of es, ts ++ items_of es)
+
+-- the same with these in front of the entries that are read
+abbrev pub with_body : Parts → Read Lexeme Excess (List Entry) → Read Lexeme Excess Parts
+with_body front read = read >>= λ es rest. got (joined_body front es) rest

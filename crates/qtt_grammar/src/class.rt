@@ -2,7 +2,7 @@
 
 ghost use Rattle.std.specs.Prelude.{◌≡◌};
 ghost use Rattle.qtt_grammar.specs.Classes.{rank, same, is_name, is_simple, is_constructor, is_bname, is_digit, is_natural, is_word, is_pattern_word, starts_atom, starts_binder, starts_pattern, starts_item, opens_statement, opens_pattern};
-ghost use Rattle.qtt_grammar.specs.Readers.{statement_starts};
+ghost use Rattle.qtt_grammar.specs.Readers.{statement_starts, starts_equation};
 
 /// The form of a mark or a token, as far as the grammar tells forms apart.
 #[derive(Clone, Copy, Debug, PartialEq, Eq)]
@@ -186,6 +186,13 @@ impl Class {
                 | Class::LeftParen
                 | Class::DotParen
         )
+    }
+
+    /// What begins the patterns and the `=` of a clause.
+    pub fn starts_equation(self) -> bool
+        ensures { result ≡ starts_equation self }
+    {
+        matches!(self, Class::Equals) || self.starts_pattern()
     }
 
     /// What begins an item.
