@@ -232,15 +232,15 @@ module _ {p : Span} (T L : Level) (Q R : LevelReader) (top : Inner p T Q) (inner
   unfolding module_chain_at
   module_chain_reads =
       let close_some = symbol_some is_close class.Close refl in
-      let entries = then_exact entries_exact (symbol is_close).exact close_some (leads_begins (symbol {p = p} is_close).begins (apart next_or_goes is_close refl)) in
-      let entries_some = sample_then (sample_run (λ _ b. b) (EntryChain T L C) true) close_some in
+      let entries = then_exact (making_exact ignored entries_exact) (symbol is_close).exact close_some (leads_begins (symbol {p = p} is_close).begins (apart next_or_goes is_close refl)) in
+      let entries_some = sample_then (sample_making ignored (sample_run (λ _ b. b) (EntryChain T L C) true)) close_some in
       let named = seq (locally is_name) entries entries_some in
       let named_some = sample_then (locally_some is_name class.Small refl) entries_some in
       let header = seq (symbol is_module) named.exact named_some in
       make ignored (seq (symbol is_open) header.exact (sample_then (symbol_some is_module class.Module refl) named_some))
 
   pub module_chain_some : Sample (At p) (ModuleChain T L C)
-  module_chain_some = sample_making ignored (sample_then (symbol_some is_open class.Open refl) (sample_then (symbol_some is_module class.Module refl) (sample_then (locally_some is_name class.Small refl) (sample_then (sample_run (λ _ b. b) (EntryChain T L C) true) (symbol_some is_close class.Close refl)))))
+  module_chain_some = sample_making ignored (sample_then (symbol_some is_open class.Open refl) (sample_then (symbol_some is_module class.Module refl) (sample_then (locally_some is_name class.Small refl) (sample_then (sample_making ignored (sample_run (λ _ b. b) (EntryChain T L C) true)) (symbol_some is_close class.Close refl)))))
 
 pub text_chain_exact : (p : Span) → Exact (At p) TextChain nothing text_chain_at
 unfolding TextChain text_chain_at

@@ -283,7 +283,7 @@ module _ (T L : Level) (C : Chains) (top : FaultlessLevel T) (inner : FaultlessL
 
   pub module_chain : Alike (λ (a : Unit {0}) o t. module_excess t ≡ o) (ModuleChain T L C) (IsModule Free T L)
   module_chain =
-      let all = alike_then (symbol is_open) (alike_then (symbol is_module) (alike_then (locally is_name) (alike_before (symbol is_close) entries_chain))) in
+      let all = alike_then (symbol is_open) (alike_then (symbol is_module) (alike_then (locally is_name) (alike_before (symbol is_close) (alike_left {S = λ (a : Unit {0}) o (es : List Entry). items_excess (items_of es) ≡ o} ignored (λ a o b r. r) entries_chain)))) in
       alike_right module_of (λ a o b r. r) (alike_left {S = λ a o b. module_excess (module_of b) ≡ o} ignored (λ a o b r. r.1.1.1) all)
 
 -- ---- a text

@@ -92,7 +92,7 @@ module _ (T L : Level) (C : Chains) where
   EntryRun = Run (λ _. true) (λ _. true) (λ _ b. b) EntryChain
 
   abbrev pub ModuleChain : Says (Unit {0})
-  ModuleChain = Making ignored (Symbol is_open then Symbol is_module then Locally is_name then EntryRun true then Symbol is_close)
+  ModuleChain = Making ignored (Symbol is_open then Symbol is_module then Locally is_name then Making ignored (EntryRun true) then Symbol is_close)
 
 unfoldable pub TextChain : Says (Unit {0})
 TextChain = ModuleChain (levels Free 200) (levels Free 199) (chains 200)

@@ -52,3 +52,5 @@ pub mod ChainItems
 pub mod ChainTrees
 pub mod ChainModules
 pub mod Outcomes
+pub mod ChainBelow
+pub mod ChainLoops

@@ -43,14 +43,14 @@ one_tree pass ls t u m n = let x = text_whole pass ls t None m in let y = text_w
 
 -- ---- the three answers
 
-no_text : (pass : Pass) (ls : List Lexeme) (r : TextRead) → text_at pass ls ≡ r → ((t : Module) (o : Option Excess) → Judged o t [] r → ⊥) → (t : Module) (o : Option Excess) → IsText pass ls t o → ⊥
+pub no_text : (pass : Pass) (ls : List Lexeme) (r : TextRead) → text_at pass ls ≡ r → ((t : Module) (o : Option Excess) → Judged o t [] r → ⊥) → (t : Module) (o : Option Excess) → IsText pass ls t o → ⊥
 no_text pass ls r e h t o m = h t o (subst (λ (q : TextRead). Judged o t [] q) e (text_whole pass ls t o m))
 
-long_none : (a : Module) (x : Lexeme) (rest : List Lexeme) (t : Module) (o : Option Excess) → Judged o t [] (got a (x ∷ rest)) → ⊥
+pub long_none : (a : Module) (x : Lexeme) (rest : List Lexeme) (t : Module) (o : Option Excess) → Judged o t [] (got a (x ∷ rest)) → ⊥
 long_none a x rest t None j = cc
 long_none a x rest t (Some f) (w, j) = cc
 
-bad_none : (k : Kind) (rest : List Lexeme) (t : Module) (o : Option Excess) → Judged o t [] (bad k rest) → ⊥
+pub bad_none : (k : Kind) (rest : List Lexeme) (t : Module) (o : Option Excess) → Judged o t [] (bad k rest) → ⊥
 bad_none k rest t None j = cc
 bad_none k rest t (Some f) (w, j) = cc
 

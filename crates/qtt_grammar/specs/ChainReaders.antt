@@ -122,7 +122,7 @@ module _ (top inner : LevelReader) (chains : ChainReader) where
   entry_chain_at b = making_at second (then_at (symbol_at is_next) (either_at (begins (of is_import)) (making_at (λ _. b) (then_at (token_at (λ _. None) (opens b (of is_import)) place) (local_at is_name))) (making_at (λ _. false) item_chain_at)))
 
   unfoldable pub module_chain_at : Reads (Unit {0})
-  module_chain_at = making_at ignored (then_at (symbol_at is_open) (then_at (symbol_at is_module) (then_at (local_at is_name) (then_at (counted_at (λ _ b. b) (of is_next) entry_chain_at true) (symbol_at is_close)))))
+  module_chain_at = making_at ignored (then_at (symbol_at is_open) (then_at (symbol_at is_module) (then_at (local_at is_name) (then_at (making_at ignored (counted_at (λ _ b. b) (of is_next) entry_chain_at true)) (symbol_at is_close)))))
 
 unfoldable pub text_chain_at : Reads (Unit {0})
 text_chain_at = module_chain_at (levels_at Free 200) (levels_at Free 199) (chains_at 200)

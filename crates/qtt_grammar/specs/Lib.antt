@@ -13,3 +13,6 @@ pub mod Spelled
 pub mod Chain
 pub mod ChainReaders
 pub mod Outcome
+pub mod ChainView
+pub mod Joined
+pub mod ChainExamples

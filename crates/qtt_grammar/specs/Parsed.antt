@@ -8,7 +8,7 @@ use Rattle.qtt_layout.specs.declared.laid.Laid.{Laid}
 use Rattle.qtt_syntax.specs.declared.module.ModuleText.{ModuleText}
 use Rattle.qtt_syntax.specs.Tree.{Module}
 use Rattle.qtt_syntax.specs.View.{module_of}
-use Rattle.qtt_phrase.specs.Phrase.{BeginsSome, FirstBad, Settles}
+use Rattle.qtt_phrase.specs.Phrase.{BeginsSome, FirstBad}
 use Rattle.qtt_phrase.specs.Reading.{Kind, Read}
 use Rattle.qtt_phrase.specs.Reading.Kind.{unexpected, too_deep}
 use Rattle.qtt_phrase.specs.Reading.Read.{got, bad, over}
@@ -20,7 +20,9 @@ use Rattle.qtt_grammar.specs.declared.stop.Excess.{Excess}
 use Rattle.qtt_grammar.specs.Classes.{is_close}
 use Rattle.qtt_grammar.specs.Grammar.{Says, of, levels, IsModule, IsText}
 use Rattle.qtt_grammar.specs.Lexeme.{lexemes}
-use Rattle.qtt_grammar.specs.Readers.{text_at}
+use Rattle.qtt_grammar.specs.Outcome.{Passes, Exceeds, Never, HasOutcome}
+use Rattle.qtt_grammar.specs.Outcome.Outcome.{passed}
+use Rattle.qtt_grammar.specs.Joined.{read_whole}
 
 -- where the first of them stands; with none left, the start of the text
 abbrev pub place_of_first : List Lexeme → Span
@@ -53,7 +55,7 @@ whole (over e ls) = Err (above e)
 
 -- the tree of tokens with marks, or their first fault
 abbrev pub parsed : List Laid → Result Module Mistake
-parsed laid = whole (text_at Counts (lexemes laid))
+parsed laid = whole (read_whole (lexemes laid))
 
 -- the error is want of memory, or keeps this fault
 abbrev pub Refuses : GrammarError → Result Module Mistake → Type 0
@@ -76,11 +78,11 @@ HasKind unexpected front rest = (x : Lexeme) (r : List Lexeme) → rest ≡ x �
 
 -- no limit is passed before any bad token
 abbrev pub IsWithin : List Lexeme → Type 0
-IsWithin ls = (e : Excess) → Settles (IsText Counts) ls e → ⊥
+IsWithin ls = Never (Passes ls) × Never (Exceeds ls)
 
 -- Why lexemes are refused: a limit that is passed first, or the first bad one.
 pub data IsFault (ls : List Lexeme) (m : Mistake) : Type 0 where
-  passes_limit : (e : Excess) → Settles (IsText Counts) ls e → m ≡ above e → IsFault ls m
+  passes_limit : (e : Excess) → HasOutcome ls (passed e) → m ≡ above e → IsFault ls m
   has_bad_token : (kind : Kind) (rest : List Lexeme) (d : FirstBad (IsText Counts) ls rest) → HasKind kind d.front rest → IsWithin ls → m ≡ bad_token kind rest → IsFault ls m
 
 -- the error is want of memory, or keeps a fault of these

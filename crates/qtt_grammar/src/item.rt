@@ -70,9 +70,9 @@ fn another_param<'a>(level: Level, count: usize, laid: Rest<'a>) -> Reading<'a, 
     param(level, laid)
 }
 
-// The parameters of a family.
+/// The parameters of a family.
 #[tactic(auto, unfolding(crate::specs::Readers::params_at))]
-fn params<'a>(level: Level, laid: Rest<'a>) -> Reading<'a, Vec<Param>>
+pub fn params<'a>(level: Level, laid: Rest<'a>) -> Reading<'a, Vec<Param>>
     requires { 0 < level.left }
     ensures { Answers (λ v. map param_of v.items) result (within params_at level.pass level.left 0 laid.now) }
 {

@@ -5,6 +5,8 @@ mod application;
 mod binder;
 mod block;
 mod body;
+mod chain;
+mod chain_text;
 mod class;
 mod count;
 mod errors;

@@ -16,7 +16,7 @@ use qtt_syntax::{Expr, Mark};
 use qtt_usage::mult::Mult;
 
 // A brace binder's mark, which is `0`.
-fn erased<'a>(laid: Rest<'a>) -> Reading<'a, Mult>
+pub fn erased<'a>(laid: Rest<'a>) -> Reading<'a, Mult>
     ensures { Answers (λ m. m) result (token_at (λ _. None) (of is_zero) (λ x. mult_of x.class) laid.now) }
 {
     let (_, rest) = symbol(Class::Zero, laid)?;
