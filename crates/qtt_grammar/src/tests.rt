@@ -202,7 +202,7 @@ static LEVELS: [Row; 9] = [
     ("f .(", "(", "y", ")", ") = a", 199, "2:204 9"),
 ];
 
-static COUNTS: [Row; 8] = [
+static COUNTS: [Row; 12] = [
     (
         "f",
         " x",
@@ -229,6 +229,42 @@ static COUNTS: [Row; 8] = [
         "",
         100,
         "2:808 31 parameters, indices, fields, or patterns of one thing 101",
+    ),
+    (
+        "data N : ",
+        "T -> ",
+        "Type where",
+        "",
+        "",
+        100,
+        "2:510 31 parameters, indices, fields, or patterns of one thing 101",
+    ),
+    (
+        "data N : Type where\n  C : ",
+        "N -> ",
+        "N",
+        "",
+        "",
+        100,
+        "3:507 31 parameters, indices, fields, or patterns of one thing 101",
+    ),
+    (
+        "data N : Type where\n  C : ",
+        "{0 a : T} -> ",
+        "N",
+        "",
+        "",
+        100,
+        "3:1307 31 parameters, indices, fields, or patterns of one thing 101",
+    ),
+    (
+        "data N : Type where\n  C : ",
+        "(a : T) -> ",
+        "(N -> N)",
+        "",
+        "",
+        99,
+        "3:1108 31 parameters, indices, fields, or patterns of one thing 101",
     ),
     (
         "data N : Type where",
@@ -292,6 +328,27 @@ fn limits_of_levels_and_counts(rt: HostRuntime) -> Result<(), Fail> {
             "at {part}"
         );
     }
+    Ok(())
+}
+
+// A field in which a fault stands.
+static FAULTY: Row = (
+    "data N : Type where\n  C : ",
+    "N -> ",
+    "(x : = ",
+    "",
+    "",
+    99,
+    "3:507 8 =",
+);
+
+#[test]
+fn limit_comes_before_faults_inside(rt: HostRuntime) -> Result<(), Fail> {
+    assert_eq!(rt; verdict(rt.alloc(), &FAULTY, FAULTY.5)?.as_str(), FAULTY.6);
+    assert_eq!(rt;
+        verdict(rt.alloc(), &FAULTY, FAULTY.5.saturating_add(1))?.as_str(),
+        "3:507 31 parameters, indices, fields, or patterns of one thing 101"
+    );
     Ok(())
 }
 
