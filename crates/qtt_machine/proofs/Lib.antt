@@ -1,0 +1,5 @@
+pub mod Taking
+pub mod Stacking
+pub mod Parting
+pub mod Doing
+pub mod Computing

@@ -1,0 +1,13 @@
+use Rattle.qtt_term.specs.View.{action}
+use Rattle.qtt_code.specs.Value.{Value, Values}
+use Rattle.qtt_machine.specs.View.{state}
+use Rattle.qtt_machine.proofs.Doing.{makes_within}
+use Rattle.qtt_machine.proofs.step.act.Goals as goal
+
+pub parts-requires-clause-pushed : goal.parts-requires-clause-pushed
+parts-requires-clause-pushed c =
+    makes_within (Value.action (action c.args.kind)) c.args.count Values.none (state c.args.frames.now).frame.pushed (state c.args.frames.now) c.requires.unstuck
+
+pub replace-requires-clause-pushed : goal.replace-requires-clause-pushed
+replace-requires-clause-pushed c =
+    makes_within (Value.action (action c.args.kind)) c.args.count Values.none (state c.args.frames.now).frame.pushed (state c.args.frames.now) c.requires.unstuck

@@ -1,0 +1,4 @@
+pub mod View
+pub mod Stacks
+pub mod Events
+pub mod Parts
