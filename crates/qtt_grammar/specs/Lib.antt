@@ -15,4 +15,3 @@ pub mod ChainReaders
 pub mod Outcome
 pub mod ChainView
 pub mod Joined
-pub mod ChainExamples
