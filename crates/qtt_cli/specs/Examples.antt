@@ -10,6 +10,7 @@ use Rattle.qtt_lexer.specs.declared.token.TokenKind.{TokenKind}
 use Rattle.qtt_lexer.specs.declared.token.TokenKind.TheVariants as kind
 use Rattle.qtt_layout.specs.Rules.{laid, put_from}
 use Rattle.qtt_grammar.specs.Readers.{text_at, module_at}
+use Rattle.qtt_grammar.specs.ChainReaders.{text_chain_at, module_chain_at}
 use Rattle.qtt_syntax.specs.declared.expr.Mark.TheVariants.{Written}
 use Rattle.qtt_syntax.specs.declared.expr.Target.TheVariants.{Unknown}
 use Rattle.qtt_syntax.specs.Tree.{Tree, Statement, Item, Module, arguments, statements}
@@ -119,7 +120,7 @@ an_import = refl
 -- the text without a byte ends too soon, at 1:1
 pub empty_text : reading (codes "Main") []
     ≡ Err (record { kind = 8; span = record { line = 1; col = 1; len = 0 }; word = codes "end"; count = 0 })
-unfolding reading tree_of_text lexed tokens_from utf8_valid_len chars laid put_from text_at module_at
+unfolding reading tree_of_text lexed tokens_from utf8_valid_len chars laid put_from text_at module_at text_chain_at module_chain_at
 empty_text = refl
 
 -- ---- runs
