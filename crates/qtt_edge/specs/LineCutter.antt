@@ -19,6 +19,14 @@ CutsAll all rest (Ok TooLong) = (is_too_long (line_of all) ≡ true) × (rest �
 CutsAll all rest (Ok NotUtf8) = (is_too_long (line_of all) ≡ false) × (is_utf8 (line_of all) ≡ false) × (rest ≡ all)
 CutsAll all rest (Err error) = Unit {0}
 
+-- what is answered as a line is one, also of bytes that are not told: no byte 10 stands in it
+abbrev pub GivesLine : Result Next LineError → Type 0
+GivesLine (Ok (Line text)) = (is_line text ≡ true) × (line_of text ≡ text)
+GivesLine (Ok End) = Unit {0}
+GivesLine (Ok TooLong) = Unit {0}
+GivesLine (Ok NotUtf8) = Unit {0}
+GivesLine (Err error) = Unit {0}
+
 -- the same, where the bytes are told before and after
 abbrev pub Cuts : Option (List ℕ) → Option (List ℕ) → Result Next LineError → Type 0
 Cuts None None result = Unit {0}

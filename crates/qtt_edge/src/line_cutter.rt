@@ -4,7 +4,7 @@ ghost use Rattle.std.specs.Prelude.{◌≡◌, ◌+◌, ◌≤◌, [], length, t
 ghost use Rattle.qtt_prims.specs.Lines.{line_of};
 ghost use Rattle.qtt_edge.specs.Counts.{Counts};
 ghost use Rattle.qtt_edge.specs.Source.{IsAtEnd};
-ghost use Rattle.qtt_edge.specs.LineCutter.{all_told, Cuts, CutsFront, CutsLast, EndsAt};
+ghost use Rattle.qtt_edge.specs.LineCutter.{all_told, Cuts, CutsFront, CutsLast, EndsAt, GivesLine};
 
 use crate::source::Source;
 use qtt_base::MemoryError;
@@ -72,6 +72,7 @@ impl LineCutter {
     /// at most 65,537.
     pub fn next_line<S: Source>(&mut self, source: &mut S) -> Result<Next, LineError>
         ensures cuts { Cuts (all_told self.old (S.content source.old)) (all_told self.new (S.content source.new)) result }
+        ensures line { GivesLine result }
         ensures end { result ≡ Ok Next.End → self.old ≡ [] }
         ensures ended { Counts (S.ends source.old) (S.ends source.new) (result ≡ Ok Next.End) }
         ensures failed { Counts (S.faults source.old) (S.faults source.new) (IsErrOf result LineError.Fault) }
@@ -87,6 +88,7 @@ fn next_line<S: Source>(
 ) -> Result<Next, LineError>
     ensures cuts { let before = all_told held.old.items (S.content source.old) in
         Cuts before (all_told held.new.items (S.content source.new)) result }
+    ensures line { GivesLine result }
     ensures end { result ≡ Ok Next.End → held.old.items ≡ [] }
     ensures ended { Counts (S.ends source.old) (S.ends source.new) (result ≡ Ok Next.End) }
     ensures failed { Counts (S.faults source.old) (S.faults source.new) (IsErrOf result LineError.Fault) }
@@ -124,8 +126,10 @@ fn line_end(held: &[u8], from: usize) -> Option<usize>
 fn cut(alloc: Global, held: &mut Vec<u8>, len: usize, behind: usize) -> Result<Next, LineError>
     requires line { len ≤ behind }
     requires within { behind ≤ vec_len held.old }
-    ensures { let bytes = held.old.items in
+    requires no_end { let front = take len held.old.items in line_of front ≡ front }
+    ensures cuts { let bytes = held.old.items in
         CutsFront (take len bytes) (drop behind bytes) bytes held.new.items result }
+    ensures line { GivesLine result }
 {
     if len > MAX_LINE {
         return Ok(Next::TooLong);
@@ -142,7 +146,9 @@ fn cut(alloc: Global, held: &mut Vec<u8>, len: usize, behind: usize) -> Result<N
 
 /// The line that ends with the input.
 fn last(alloc: Global, held: &mut Vec<u8>) -> Result<Next, LineError>
-    ensures { CutsLast held.old.items held.new.items result }
+    requires no_end { line_of held.old.items ≡ held.old.items }
+    ensures cuts { CutsLast held.old.items held.new.items result }
+    ensures line { GivesLine result }
 {
     let len = held.len();
     if len == 0 {
