@@ -12,6 +12,7 @@ use Rattle.qtt_closure.specs.StandsFor.{StandsFor, AreConversions}
 use Rattle.qtt_code.specs.Value.{Value}
 use Rattle.qtt_code.specs.Instruction.{Program}
 use Rattle.qtt_code.specs.Machine.{State, Did, instruction, Reaches, start, called}
+use Rattle.qtt_code.specs.Forward.{AllJumpForward}
 use Rattle.qtt_lower.specs.Lowerable.{IsLowered}
 use Rattle.qtt_lower.specs.Source.{IsSource, HasWholeBodies}
 use Rattle.qtt_lower.specs.Evaluation.{Evaluation, evaluation, Runs, FollowsErased, Answers}
@@ -64,3 +65,7 @@ pub record ProgramRuns (bs : List Body) : Type 0 where
 
 abbrev pub ProgramsRun : Type 0
 ProgramsRun = (bs : List Body) → AreSources bs → ProgramRuns bs
+
+-- each jump goes to a later place of its block
+abbrev pub JumpsGoForward : Type 0
+JumpsGoForward = (bs : List Body) → AllJumpForward (program bs)
