@@ -19,5 +19,5 @@ returns-clause-line c =
     let front = take c.args.len c.args.held.now.items in
     let same : c.in-Ok-from_str.text ≡ front = rw (← c.deref.ensures.value) (c.in-Ok-from_str.ensures ∙ c.in-Ok.ensures.cases.0) in
     let line : is_line front ≡ true =
-        rw (← c.deref.ensures.value) (is_line-yes _ (short_front c.deref.result.now c.args.len (omega arith)) c.in-Ok.ensures.cases.1) in
+    rw (← c.deref.ensures.value) (is_line-yes _ (short_front c.deref.result.now c.args.len (omega arith)) c.in-Ok.ensures.cases.1) in
     (subst (λ t. is_line t ≡ true) (sym same) line, subst (λ t. line_of t ≡ t) (sym same) c.requires.no_end)
