@@ -7,5 +7,6 @@ pub mod Patterns
 pub mod Resolved
 pub mod PrimNames
 pub mod Exports
+pub mod PrimSigs
 pub mod View
 pub mod Examples

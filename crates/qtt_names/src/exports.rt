@@ -2,8 +2,10 @@
 
 ghost use Rattle.std.specs.Prelude.{◌≡◌, ◌<◌, ◌^◌, [], length, map, IfOk};
 ghost use Rattle.qtt_names.specs.Exports.{exports_of, sig_of};
+ghost use Rattle.qtt_names.specs.PrimSigs.{prim_exports};
 ghost use Rattle.qtt_names.specs.PrimNames.{prim_name as name_of_prim, prim_items as items_of_prim, with_names};
 
+use crate::prim_sigs::prim_sigs;
 use crate::target::part;
 use indexmap::IndexMap;
 use qtt_base::{GlobalId, MemoryError, ModuleId, Name};
@@ -31,6 +33,18 @@ pub struct Sig {
 }
 
 impl Exports {
+    /// What the module Prim gives: module 0, whose items are numbered from 0. Places are 0:0, of no length; no binder is in braces.
+    pub fn prim(alloc: Global) -> Result<Exports, MemoryError>
+        ensures { IfOk result (λ e. exports_of e ≡ prim_exports) }
+    {
+        Ok(Exports {
+            module: ModuleId(0),
+            name: prim_name(alloc)?,
+            items: prim_items(alloc)?,
+            sigs: prim_sigs(alloc)?,
+        })
+    }
+
     /// An equal value.
     pub fn copy(&self, alloc: Global) -> Result<Exports, MemoryError>
         ensures { IfOk result (λ copy. exports_of copy ≡ exports_of self.now) }

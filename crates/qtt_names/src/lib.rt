@@ -6,6 +6,7 @@ mod exports;
 mod expr;
 mod module;
 mod pattern;
+mod prim_sigs;
 mod scope;
 mod target;
 
@@ -13,3 +14,6 @@ pub use errors::NamesError;
 pub use exports::{Exports, Sig};
 pub use module::resolve;
 pub use scope::Scope;
+
+#[cfg(test)]
+mod tests;
