@@ -6,6 +6,7 @@ pub mod Hello
 pub mod HelloAnswer
 pub mod Laws
 pub mod Messages
+pub mod PrimAgreement
 pub mod ReadAnswer
 pub mod Reading
 pub mod Running
