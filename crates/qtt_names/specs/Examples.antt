@@ -1,5 +1,5 @@
 -- Worked examples of what names stand for.
-use Rattle.std.specs.Prelude.{◌≡◌, ℕ, suc, pos, false, List, [], ◌∷◌, codes, Ok, refl}
+use Rattle.std.specs.Prelude.{◌≡◌, ℕ, suc, pos, false, List, [], ◌∷◌, map, codes, Ok, refl}
 use Rattle.qtt_base.specs.declared.place.GlobalId.{GlobalId}
 use Rattle.qtt_base.specs.declared.place.Span.{Span}
 use Rattle.qtt_usage.specs.declared.mult.Mult.TheVariants as mult
@@ -22,7 +22,10 @@ use Rattle.qtt_names.specs.Answer.{Answer, unbound, ambiguous, duplicate, ◌>>=
 use Rattle.qtt_names.specs.Scope.{Imported}
 use Rattle.qtt_names.specs.Target.{global, look_up}
 use Rattle.qtt_names.specs.Resolved.{filled_item, resolved}
+use Rattle.qtt_names.specs.Filled.{filled}
+use Rattle.qtt_names.specs.Exports.{Sig}
 use Rattle.qtt_names.specs.PrimNames.{prim_id, scope_of}
+use Rattle.qtt_names.specs.PrimSigs.{prim_sigs}
 
 -- the place with a number
 abbrev pub at : ℕ → Span
@@ -239,3 +242,9 @@ pub let_not_in_its_value :
     ≡ unbound (codes "x") (at 5)
 unfolding look_up global filled_item ◌>>=◌
 let_not_in_its_value = refl
+
+-- in the signatures of Prim each name stands for what a text finds by it
+pub signatures_of_prim_are_looked_up :
+    map (λ (s : Sig). filled (look_up (scope_of (record { 0 = 1 }) (main []) []) 0) [] s.type) prim_sigs ≡ map (λ (s : Sig). Ok s.type) prim_sigs
+unfolding look_up global ◌>>=◌
+signatures_of_prim_are_looked_up = refl
