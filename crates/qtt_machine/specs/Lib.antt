@@ -2,3 +2,8 @@ pub mod View
 pub mod Stacks
 pub mod Events
 pub mod Parts
+pub mod Runs
+pub mod Forward
+pub mod Ticks
+pub mod Halting
+pub mod Machine

@@ -9,6 +9,7 @@ ghost use Rattle.qtt_value.specs.View.{value as value_of};
 ghost use Rattle.qtt_machine.specs.View.{state};
 ghost use Rattle.qtt_machine.specs.Stacks.{IsStacked, IsWithin};
 ghost use Rattle.qtt_machine.specs.Events.{Does};
+ghost use Rattle.qtt_machine.specs.Ticks.{IsDivision, TicksOr};
 ghost use Rattle.qtt_machine.specs.Parts.{IsOnNumbers, as_number as number_of, as_text as text_of};
 
 use crate::event::{Event, TrapKind};
@@ -114,6 +115,37 @@ fn same_texts<'a>(frames: &mut Frames<'a>) -> Result<Event<'a>, MemoryError>
     };
     frames.replace(2, truth(first == second))?;
     Ok(Event::Ticked)
+}
+
+/// Whether a primitive makes a tick: each does but a division by 0.
+pub(crate) fn makes_tick(frames: &Frames, prim: Primitive) -> bool
+    requires stacked { IsStacked frames.now }
+    requires unstuck { ¬ (computes prim (taken (arity prim) Values.none (state frames.now).frame.pushed) (state frames.now) ≡ Did.stuck) }
+    ensures { TicksOr (computes prim (taken (arity prim) Values.none (state frames.now).frame.pushed) (state frames.now)) result }
+{
+    match prim {
+        Primitive::DivInt | Primitive::ModInt => divides(frames, prim),
+        _ => true,
+    }
+}
+
+/// Whether the divisor is not 0.
+fn divides(frames: &Frames, prim: Primitive) -> bool
+    requires stacked { IsStacked frames.now }
+    requires division { IsDivision prim }
+    requires unstuck { ¬ (computes prim (taken (arity prim) Values.none (state frames.now).frame.pushed) (state frames.now) ≡ Did.stuck) }
+    ensures { TicksOr (computes prim (taken (arity prim) Values.none (state frames.now).frame.pushed) (state frames.now)) result }
+{
+    let Some(_dividend) = as_number(frames.newest(1)) else {
+        unreachable!()
+    };
+    let Some(divisor) = as_number(frames.newest(0)) else {
+        unreachable!()
+    };
+    if divisor == 0 {
+        return false;
+    }
+    true
 }
 
 /// Puts an answer in the place of the last so many values, or traps.

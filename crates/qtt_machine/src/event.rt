@@ -21,3 +21,13 @@ pub enum Event<'a> {
     Ended(Val<'a>),
     Trapped(TrapKind),
 }
+
+/// Why the machine stopped.
+#[derive(Clone, Copy)]
+pub enum Halt<'a> {
+    /// The evaluation gave this value.
+    Done(Val<'a>),
+    Trap(TrapKind),
+    /// The evaluation goes on after as many ticks as it might make.
+    Spent,
+}

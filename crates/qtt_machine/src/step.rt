@@ -4,15 +4,16 @@ ghost use Rattle.std.specs.Prelude.{◌≡◌, ◌≤◌, IfOk, Some, drop, slic
 ghost use Rattle.std.specs.Option.{option_map};
 ghost use Rattle.qtt_code.specs.Value.{Value, Values, side_by_side};
 ghost use Rattle.qtt_code.specs.Machine.{Did, calls, enters, forces, instruction, makes, pushes, returns, switches, taken};
-ghost use Rattle.qtt_code.specs.View.{program as program_of};
+ghost use Rattle.qtt_code.specs.View.{instr as instr_of, program as program_of};
 ghost use Rattle.qtt_term.specs.View.{action};
 ghost use Rattle.qtt_value.specs.View.{value as value_of, values};
 ghost use Rattle.qtt_machine.specs.View.{state, position};
 ghost use Rattle.qtt_machine.specs.Stacks.{IsStacked, IsWithin};
+ghost use Rattle.qtt_machine.specs.Ticks.{NextTicks, is_tick as tick_of};
 ghost use Rattle.qtt_machine.specs.Events.{Does};
 ghost use Rattle.qtt_machine.specs.Parts.{as_closure as closure_of, as_con as con_of};
 
-use crate::compute::compute;
+use crate::compute::{compute, makes_tick};
 use crate::event::{Event, TrapKind};
 use crate::frames::{Entry, Frames};
 use bumpalo::Bump;
@@ -58,6 +59,45 @@ pub(crate) fn step<'a>(
         }
         Instr::Return => give_back(frames),
         Instr::Trap => Ok(Event::Trapped(TrapKind::MissingClause)),
+    }
+}
+
+/// Whether the next instruction makes a tick.
+pub(crate) fn ticks_next(frames: &Frames, program: &Program) -> bool
+    requires stacked { IsStacked frames.now }
+    requires unstuck { ¬ (instruction (program_of program.now) (state frames.now) ≡ Did.stuck) }
+    ensures { NextTicks (program_of program.now) (state frames.now) result }
+{
+    match frames.next() {
+        Instr::Prim(prim) => makes_tick(frames, *prim),
+        instr => is_tick(instr),
+    }
+}
+
+fn is_tick(instr: &Instr) -> bool
+    ensures { result ≡ tick_of (instr_of instr.now) }
+{
+    match instr {
+        Instr::Call
+        | Instr::TailCall
+        | Instr::Force
+        | Instr::TailForce
+        | Instr::Enter(_)
+        | Instr::TailEnter(_)
+        | Instr::Prim(_)
+        | Instr::Switch(_) => true,
+        Instr::Local(_)
+        | Instr::Captured(_)
+        | Instr::Int(_)
+        | Instr::Text(_)
+        | Instr::Type
+        | Instr::Closure(_, _)
+        | Instr::Con(_, _)
+        | Instr::Action(_, _)
+        | Instr::Leave(_)
+        | Instr::Jump(_)
+        | Instr::Return
+        | Instr::Trap => false,
     }
 }
 
