@@ -6,3 +6,5 @@ pub mod Computing
 pub mod Reaching
 pub mod Falling
 pub mod Ticking
+pub mod Halted
+pub mod Running

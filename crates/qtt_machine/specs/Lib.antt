@@ -7,3 +7,4 @@ pub mod Forward
 pub mod Ticks
 pub mod Halting
 pub mod Machine
+pub mod Examples

@@ -10,3 +10,6 @@ mod step;
 
 pub use event::{Halt, TrapKind};
 pub use machine::Machine;
+
+#[cfg(test)]
+mod tests;
