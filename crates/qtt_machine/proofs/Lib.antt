@@ -7,4 +7,4 @@ pub mod Reaching
 pub mod Falling
 pub mod Ticking
 pub mod Halted
-pub mod Running
+pub mod GoingOn

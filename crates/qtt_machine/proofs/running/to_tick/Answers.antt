@@ -1,0 +1,39 @@
+-- An instruction without a tick leaves fewer instructions; one with a tick is where the way stops.
+use Rattle.std.proofs.Common.{◌≡◌, ◌∙◌, ap}
+use Rattle.qtt_code.specs.Machine.{Did, instruction, Reaches}
+use Rattle.qtt_code.specs.View.{program}
+use Rattle.qtt_machine.specs.View.{state}
+use Rattle.qtt_machine.specs.Events.{did}
+use Rattle.qtt_machine.proofs.Reaching.{then_goes}
+use Rattle.qtt_machine.proofs.GoingOn.{is_unstuck, goes_on, ticks_on, fewer_left}
+use Rattle.qtt_machine.proofs.running.to_tick.Goals as goal
+
+pub instructions-init : goal.instructions-init
+instructions-init c = record { ready = c.requires; way = Reaches.here }
+
+pub step-requires-clause-unstuck : goal.step-requires-clause-unstuck
+step-requires-clause-unstuck c = is_unstuck (program c.args.program.now) c.instructions.frames c.instructions.invariant.ready
+
+pub instructions-smaller : goal.instructions-smaller
+instructions-smaller c =
+    fewer_left (program c.args.program.now) c.instructions.frames c.instructions.invariant.ready (state c.step.new.frames)
+    (c.in_ok-step.ensures.is ∙ ap (λ e. did e (state c.step.new.frames)) c.in-Went.is)
+
+pub instructions-preserved : goal.instructions-preserved
+instructions-preserved c =
+    let P = program c.args.program.now in
+    let e : instruction P (state c.instructions.frames) ≡ Did.goes (state c.step.new.frames) =
+    c.in_ok-step.ensures.is ∙ ap (λ e. did e (state c.step.new.frames)) c.in-Went.is in
+    record {
+      ready = goes_on P c.instructions.frames c.instructions.invariant.ready c.step.new.frames c.in_ok-step.ensures.stacked e;
+      way = then_goes P c.instructions.invariant.way e;
+    }
+
+pub returns-in-Ticked : goal.returns-in-Ticked
+returns-in-Ticked c =
+    let P = program c.args.program.now in
+    let e : instruction P (state c.instructions.frames) ≡ Did.ticks (state c.step.new.frames) =
+    c.in_ok-step.ensures.is ∙ ap (λ e. did e (state c.step.new.frames)) c.in-Ticked.is in (
+      record { last = state c.instructions.frames; way = c.instructions.invariant.way; is = e },
+      ticks_on P c.instructions.frames c.instructions.invariant.ready c.step.new.frames c.in_ok-step.ensures.stacked e,
+    )
