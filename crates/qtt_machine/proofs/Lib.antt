@@ -8,3 +8,4 @@ pub mod Falling
 pub mod Ticking
 pub mod Halted
 pub mod GoingOn
+pub mod Arriving

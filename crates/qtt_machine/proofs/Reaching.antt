@@ -66,13 +66,13 @@ module _ (P : Program) where
   answers_unstuck s A e = let a = (A 0).1 in not-stuck 0 (A 0).0 a.way a.stops e
 
   -- ---- where a run stops
-  pub ends_done : (b n : ℕ) (s r : State) (v : Value) → Reaches P n s r → n ≤ b → instruction P r ≡ Did.ends v → Advances P b s (Halt.done v)
+  abbrev pub ends_done : (b n : ℕ) (s r : State) (v : Value) → Reaches P n s r → n ≤ b → instruction P r ≡ Did.ends v → Advances P b s (Halt.done v)
   ends_done b n s r v w p e = record { made = n; last = r; way = w; within = p; stops = subst (λ d. Stops b n d (Halt.done v)) (sym e) refl }
 
-  pub traps_trapped : (b n : ℕ) (s r : State) (k : Cause) → Reaches P n s r → n ≤ b → instruction P r ≡ Did.traps k → Advances P b s (Halt.trapped k)
+  abbrev pub traps_trapped : (b n : ℕ) (s r : State) (k : Cause) → Reaches P n s r → n ≤ b → instruction P r ≡ Did.traps k → Advances P b s (Halt.trapped k)
   traps_trapped b n s r k w p e = record { made = n; last = r; way = w; within = p; stops = subst (λ d. Stops b n d (Halt.trapped k)) (sym e) refl }
 
-  pub ticks_spent : (b : ℕ) (s r t : State) → Reaches P b s r → instruction P r ≡ Did.ticks t → Advances P b s Halt.spent
+  abbrev pub ticks_spent : (b : ℕ) (s r t : State) → Reaches P b s r → instruction P r ≡ Did.ticks t → Advances P b s Halt.spent
   ticks_spent b s r t w e = record { made = b; last = r; way = w; within = omega arith; stops = subst (λ d. Stops b b d Halt.spent) (sym e) (refl, refl) }
 
 -- ---- runs without a tick behind others

@@ -26,7 +26,7 @@ pub instructions-preserved : goal.instructions-preserved
 instructions-preserved c =
     let P = program c.args.program.now in
     let e : instruction P (state c.instructions.frames) ≡ Did.goes (state c.step.new.frames) =
-        c.in_ok-step.ensures.is ∙ ap (λ e. did e (state c.step.new.frames)) c.in-Went.is in
+    c.in_ok-step.ensures.is ∙ ap (λ e. did e (state c.step.new.frames)) c.in-Went.is in
     record {
       ready = goes_on P c.instructions.frames c.instructions.invariant.ready c.step.new.frames c.in_ok-step.ensures.stacked e;
       way = then_goes P c.instructions.invariant.way e;
