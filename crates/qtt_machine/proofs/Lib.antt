@@ -9,3 +9,4 @@ pub mod Ticking
 pub mod Halted
 pub mod GoingOn
 pub mod Arriving
+pub mod Beginning
