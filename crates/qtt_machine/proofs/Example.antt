@@ -25,7 +25,7 @@ closing_answers = ended_answers closing 1 (start 0) closed closing-ends
 
 is-closed : (v : Value) → Advances closing 5 (start 0) (Halt.done v) → v ≡ closed
 is-closed v a =
-    let b = ends_done closing 5 1 (start 0) closing-ends.0 closed closing-ends.1.0 (omega arith) closing-ends.1.1 in
+    let b = ends_done closing 5 1 (start 0) closing-ends.0 closed closing-ends.1 (omega arith) closing-ends.2 in
     let e = (halts-are-unique closing 5 (start 0) (Halt.done v) (Halt.done closed) a b).0 in
     cc
 

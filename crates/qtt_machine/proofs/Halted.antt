@@ -29,8 +29,8 @@ module _ (P : Program) where
 
   pub ended_answers : (n : ℕ) (s : State) (v : Value) → EndsAfter P n s v → Answers P s
   ended_answers n s v e b =
-      elim (below-or-not b n) [ inl h ↦ (Halt.spent, spent-before n b s e.0 e.1.0 h) | inr h ↦ (Halt.done v, ends_done P b n s e.0 v e.1.0 h e.1.1) ]
+      elim (below-or-not b n) [ inl h ↦ (Halt.spent, spent-before n b s e.0 e.1 h) | inr h ↦ (Halt.done v, ends_done P b n s e.0 v e.1 h e.2) ]
 
   pub trapped_answers : (n : ℕ) (s : State) (k : Cause) → TrapsAfter P n s k → Answers P s
   trapped_answers n s k e b =
-      elim (below-or-not b n) [ inl h ↦ (Halt.spent, spent-before n b s e.0 e.1.0 h) | inr h ↦ (Halt.trapped k, traps_trapped P b n s e.0 k e.1.0 h e.1.1) ]
+      elim (below-or-not b n) [ inl h ↦ (Halt.spent, spent-before n b s e.0 e.1 h) | inr h ↦ (Halt.trapped k, traps_trapped P b n s e.0 k e.1 h e.2) ]

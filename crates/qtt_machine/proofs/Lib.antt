@@ -5,7 +5,6 @@ pub mod Doing
 pub mod Computing
 pub mod Reaching
 pub mod Falling
-pub mod Ticking
 pub mod Halted
 pub mod GoingOn
 pub mod Arriving
