@@ -1,5 +1,5 @@
 -- Runs of so many ticks, by what comes without a tick behind them.
-use Rattle.std.proofs.Common.{◌≡◌, ℕ, suc, ◌+◌, ◌≤◌, refl, sym, subst, arith}
+use Rattle.std.proofs.Common.{◌≡◌, ℕ, suc, ◌+◌, ◌≤◌, refl, subst, arith}
 use Rattle.qtt_code.specs.Instruction.{Program}
 use Rattle.qtt_code.specs.Machine.{State, Did, Reaches}
 use Rattle.qtt_value.specs.declared.val.Val.{Val}

@@ -1,5 +1,5 @@
 -- Frames that stand at the beginning of an evaluation.
-use Rattle.std.proofs.Common.{◌≡◌, ℕ, zero, suc, List, [], ◌∷◌, Some, sym, subst}
+use Rattle.std.proofs.Common.{◌≡◌, ℕ, zero, suc, [], ◌∷◌, sym, subst}
 use Rattle.std.proofs.lemmas.Option.{none-some, same_Some}
 use Rattle.qtt_code.specs.Value.{Value}
 use Rattle.qtt_code.specs.Instruction.{Position, Instr, Program}

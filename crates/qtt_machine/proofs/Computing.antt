@@ -1,5 +1,5 @@
 -- What a primitive that is not stuck finds, and what it does then.
-use Rattle.std.proofs.Common.{◌≡◌, ℕ, zero, suc, ◌≤◌, ℤ, List, [], ◌∷◌, Option, Some, None, length, drop, refl, sym, ◌∙◌, ap, subst, arith}
+use Rattle.std.proofs.Common.{◌≡◌, ℤ, List, [], ◌∷◌, Some, None, drop, refl, sym, ◌∙◌, ap}
 use mathlib.Core.Path.{ap₂}
 use Rattle.std.specs.List.{slice_get}
 use Rattle.std.proofs.lemmas.Option.{none-some, same_Some}
@@ -8,10 +8,10 @@ use Rattle.qtt_prims.specs.declared.prim.Primitive.TheVariants.{AddInt, SubInt, 
 use Rattle.qtt_prims.specs.declared.lit.Lit.{Lit}
 use Rattle.qtt_prims.specs.declared.lit.Lit.TheVariants as lit
 use Rattle.qtt_prims.specs.declared.answer.PrimAnswer.{PrimAnswer}
-use Rattle.qtt_prims.specs.Apply.{apply, of_numbers, of_number, of_texts}
+use Rattle.qtt_prims.specs.Apply.{apply, of_numbers}
 use Rattle.qtt_code.specs.Value.{Value, Values, ◌▹◌}
-use Rattle.qtt_code.specs.Machine.{State, Did, Taken, taken, literals, arity, answers, applies, computes}
-use Rattle.qtt_machine.specs.Parts.{as_number, as_text, IsOnNumbers}
+use Rattle.qtt_code.specs.Machine.{State, Did, taken, literals, arity, answers, applies, computes}
+use Rattle.qtt_machine.specs.Parts.{as_number, IsOnNumbers}
 
 -- ---- literals
 number_is : (v : Value) (n : ℤ) → Some n ≡ as_number v → v ≡ Value.literal (lit.Int n)

@@ -1,5 +1,5 @@
 -- The runs of the small program, computed.
-use Rattle.std.proofs.Common.{◌≡◌, refl, sym, subst, arith}
+use Rattle.std.proofs.Common.{◌≡◌, refl, subst, arith}
 use Rattle.qtt_code.specs.Value.{Value, Values, ◌▹◌}
 use Rattle.qtt_code.specs.Instruction.{Program}
 use Rattle.qtt_code.specs.Machine.{State, Halt, Reaches, Advances, start, called}

@@ -1,16 +1,15 @@
 -- Instructions that remain: fewer after each instruction that is no tick.
-use Rattle.std.proofs.Common.{◌≡◌, ℕ, zero, suc, ◌+◌, ◌-◌, ◌<◌, ◌≤◌, List, [], ◌∷◌, Option, Some, None, length, take, refl, sym, ◌∙◌, ap, subst, arith}
+use Rattle.std.proofs.Common.{◌≡◌, ℕ, suc, ◌+◌, ◌-◌, ◌<◌, ◌≤◌, List, [], ◌∷◌, Option, Some, None, length, refl, ap, subst, arith}
 use Rattle.std.specs.List.{slice_get}
-use Rattle.std.proofs.lemmas.Option.{none-some, same_Some}
 use Rattle.qtt_prims.specs.declared.prim.Primitive.{Primitive}
 use Rattle.qtt_prims.specs.declared.lit.Lit.{Lit}
 use Rattle.qtt_prims.specs.declared.answer.PrimAnswer.{PrimAnswer}
 use Rattle.qtt_prims.specs.declared.answer.PrimAnswer.TheVariants as answer
 use Rattle.qtt_prims.specs.Apply.{apply}
-use Rattle.qtt_code.specs.Value.{Value, Values, ◌▹◌, listed}
+use Rattle.qtt_code.specs.Value.{Value, Values, listed}
 use Rattle.qtt_code.specs.Instruction.{Position, Instr, Block, Program}
-use Rattle.qtt_code.specs.Machine.{Frame, State, Did, Taken, taken, literals, arity, in_frame, left_with, does, instruction, begin, suspended, pushes, makes, enters, calls, forces, computes, applies, answers, branches, switches, returns, returns_to}
-use Rattle.qtt_code.specs.Forward.{JumpsForward, AllJumpForward}
+use Rattle.qtt_code.specs.Machine.{Frame, State, Did, Taken, taken, literals, arity, in_frame, left_with, does, instruction, suspended, pushes, makes, enters, calls, forces, computes, applies, answers, branches, switches, returns, returns_to}
+use Rattle.qtt_code.specs.Forward.{AllJumpForward}
 use Rattle.qtt_machine.specs.Forward.{FramesJumpForward, StateJumpsForward}
 use Rattle.qtt_machine.specs.Stacks.{IsWithin}
 

@@ -1,7 +1,7 @@
 -- Frames that may run, an instruction later.
-use Rattle.std.proofs.Common.{◌≡◌, ℕ, ◌<◌, ◌≤◌, ◌+◌, refl, sym, ◌∙◌, ap, subst, arith}
+use Rattle.std.proofs.Common.{◌≡◌, ◌<◌}
 use Rattle.qtt_code.specs.Instruction.{Program}
-use Rattle.qtt_code.specs.Machine.{State, Did, instruction, Reaches}
+use Rattle.qtt_code.specs.Machine.{State, Did, instruction}
 use Rattle.qtt_machine.specs.declared.frames.Frames as code_frames
 use Rattle.qtt_machine.specs.View.{state}
 use Rattle.qtt_machine.specs.Stacks.{IsStacked}

@@ -1,5 +1,5 @@
 -- A run that ends or traps answers each bound.
-use Rattle.std.proofs.Common.{◌≡◌, ℕ, zero, suc, ◌<◌, ◌≤◌, ◌⊎◌, inl, inr, refl, sym, ◌∙◌, ap, subst, arith}
+use Rattle.std.proofs.Common.{◌≡◌, ℕ, zero, suc, ◌<◌, ◌≤◌, ◌⊎◌, inl, inr, arith}
 use Rattle.qtt_code.specs.Value.{Value}
 use Rattle.qtt_term.specs.FullStep.{Cause}
 use Rattle.qtt_code.specs.Instruction.{Program}

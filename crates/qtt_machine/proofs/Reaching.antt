@@ -1,5 +1,5 @@
 -- Runs, a step at a time.
-use Rattle.std.proofs.Common.{◌≡◌, ℕ, zero, suc, ◌-◌, ◌≤◌, refl, sym, ◌∙◌, ap, subst, arith}
+use Rattle.std.proofs.Common.{◌≡◌, ℕ, suc, ◌≤◌, refl, sym, ◌∙◌, ap, subst, arith}
 use Rattle.qtt_code.specs.Value.{Value}
 use Rattle.qtt_term.specs.FullStep.{Cause}
 use Rattle.qtt_code.specs.Instruction.{Program}

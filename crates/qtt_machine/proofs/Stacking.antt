@@ -1,10 +1,10 @@
 -- Stacks from which values were dropped.
-use Rattle.std.proofs.Common.{◌≡◌, ℕ, suc, ◌+◌, ◌-◌, ◌<◌, ◌≤◌, List, [], ◌∷◌, Some, length, take, drop, get_or, reverse, sym, ◌∙◌, ap, arith, length-drop}
+use Rattle.std.proofs.Common.{◌≡◌, ℕ, suc, ◌+◌, ◌-◌, ◌<◌, ◌≤◌, List, ◌∷◌, Some, length, take, drop, get_or, reverse, sym, ◌∙◌, ap, arith, length-drop}
 use Rattle.std.specs.List.{slice_get}
 use Rattle.std.proofs.Math.ListN.{get_or-map}
 use Rattle.std.proofs.lemmas.List.{take-take, length-take-le, take-map, drop-take, length-map, length-reverse, get_or-reverse, get_or-drop}
 use Rattle.std.proofs.lemmas.Option.{slice_get-get_or}
-use Rattle.qtt_code.specs.Machine.{State, in_frame, left_with, onward, with_locals}
+use Rattle.qtt_code.specs.Machine.{in_frame, left_with, onward, with_locals}
 use Rattle.qtt_value.specs.declared.val.Val.{Val}
 use Rattle.qtt_value.specs.View.{value, values}
 use Rattle.qtt_machine.specs.declared.frames.Frame as code_frame

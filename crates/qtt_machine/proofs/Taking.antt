@@ -1,8 +1,8 @@
 -- Values taken from a stack, and what is left.
-use Rattle.std.proofs.Common.{◌≡◌, ℕ, zero, suc, ◌+◌, ◌-◌, ◌<◌, ◌≤◌, List, [], ◌∷◌, ◌++◌, Some, length, take, drop, map, reverse, refl, sym, ◌∙◌, ap, subst, arith, length-drop}
-use Rattle.std.proofs.lemmas.List.{append-nil, reverse-append, length-reverse, take-append-drop, take-take, drop_at, drop-drop, length-map, drop-map, take-map, drop-take, take_rest}
-use Rattle.qtt_code.specs.Value.{Value, Values, ◌▹◌, listed, side_by_side}
-use Rattle.qtt_code.specs.Machine.{Taken, taken}
+use Rattle.std.proofs.Common.{◌≡◌, ℕ, ◌+◌, ◌-◌, ◌≤◌, List, [], ◌∷◌, ◌++◌, Some, length, take, drop, reverse, refl, sym, ◌∙◌, ap, arith, length-drop}
+use Rattle.std.proofs.lemmas.List.{reverse-append, length-reverse, take-append-drop, drop_at, drop-drop, length-map, drop-map, take-map, drop-take, take_rest}
+use Rattle.qtt_code.specs.Value.{Value, Values, ◌▹◌, side_by_side}
+use Rattle.qtt_code.specs.Machine.{taken}
 use Rattle.qtt_value.specs.declared.val.Val.{Val}
 use Rattle.qtt_value.specs.View.{value, values}
 

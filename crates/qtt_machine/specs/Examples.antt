@@ -1,5 +1,5 @@
 -- A small program: a closure that captured 7, and its block, which takes its argument from that.
-use Rattle.std.specs.Prelude.{List, [], ◌∷◌}
+use Rattle.std.specs.Prelude.{[], ◌∷◌}
 use Rattle.qtt_prims.specs.declared.prim.Primitive.TheVariants as prim
 use Rattle.qtt_term.specs.Programs.{item}
 use Rattle.qtt_code.specs.Instruction.{Instr, Program}

@@ -11,7 +11,7 @@ use Rattle.qtt_machine.specs.declared.event.Halt.TheVariants as halted
 use Rattle.qtt_machine.specs.declared.frames.Frames as code_frames
 use Rattle.qtt_machine.specs.View.{state}
 use Rattle.qtt_machine.specs.Stacks.{IsStacked}
-use Rattle.qtt_machine.specs.Events.{cause, did}
+use Rattle.qtt_machine.specs.Events.{cause}
 use Rattle.qtt_machine.specs.Runs.{Answers}
 use Rattle.qtt_code.specs.Forward.{AllJumpForward}
 use Rattle.qtt_machine.specs.Forward.{StateJumpsForward}

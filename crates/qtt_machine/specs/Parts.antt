@@ -4,7 +4,7 @@ use Rattle.qtt_prims.specs.declared.prim.Primitive.{Primitive}
 use Rattle.qtt_prims.specs.declared.prim.Primitive.TheVariants.{AddInt, SubInt, MulInt, DivInt, ModInt, EqInt, LtInt, AppendString, EqString, ShowInt}
 use Rattle.qtt_prims.specs.declared.lit.Lit.{Lit}
 use Rattle.qtt_prims.specs.declared.lit.Lit.TheVariants as lit
-use Rattle.qtt_code.specs.Value.{Value, Values, listed}
+use Rattle.qtt_code.specs.Value.{Value, listed}
 
 -- the block and what is captured, and the tag and the fields
 abbrev pub as_closure : Value → Option (ℕ × List Value)

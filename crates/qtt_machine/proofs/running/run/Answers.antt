@@ -1,5 +1,5 @@
 -- A turn makes a tick, or the run is over; behind the last turn the bound is reached.
-use Rattle.std.proofs.Common.{◌≡◌, ◌≤◌, subst, arith}
+use Rattle.std.proofs.Common.{◌≡◌, subst, arith}
 use Rattle.qtt_code.specs.Machine.{Reaches}
 use Rattle.qtt_code.specs.View.{program}
 use Rattle.qtt_machine.specs.View.{state}
