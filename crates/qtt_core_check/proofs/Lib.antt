@@ -30,3 +30,4 @@ pub mod Places
 pub mod Applied
 pub mod CaseRows
 pub mod Contexts
+pub mod Additions
