@@ -30,7 +30,7 @@ fn unboxed(alloc: Global, bound: Mult, mult: Mult, motive: Made, body: Made) -> 
     lam(alloc, bound, main_family(alloc, 4), opened)
 }
 
-/// The field is bound at the match's multiplicity times its own, and a dead branch may leave it.
+/// The field is bound at the match's multiplicity times its own, and a dead branch may leave it. In the erased part nothing is asked.
 fn fields(table: &mut Table<'_>) {
     let a = table.alloc;
     table.row(
@@ -63,6 +63,12 @@ fn fields(table: &mut Table<'_>) {
         unboxed(a, ONE, MANY, Ok(Term::IntTy), Ok(Term::Var(0))),
         "Fails(Lam, 3)",
     );
+    table.sigma = Sigma::Erased;
+    table.row(
+        unboxed(a, ONE, ONE, Ok(Term::IntTy), int(3)),
+        "Pi(One, Fam(GlobalId { module: ModuleId(1), item: 4 }, []), IntTy)",
+    );
+    table.sigma = Sigma::Run;
 }
 
 /// `\(b : Void) => case b of`, at this multiplicity.

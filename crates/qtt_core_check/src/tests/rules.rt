@@ -5,8 +5,11 @@ use super::terms::{
     MANY, ONE, ZERO, action, app, choice, constructor, counted, deletion, equality, family, got,
     int, io, lam, pi, prim, prim_item, pure, reflexivity, text, transport, trap, truth,
 };
+use crate::inference::infer;
+use qtt_conv::BySubst;
 use qtt_prims::{ActKind, Primitive};
-use qtt_term::{Globals, IoKind, Sigma, Term};
+use qtt_term::{Ctx, Globals, IoKind, Sigma, Term};
+use qtt_usage::mult::Mult;
 use std::test::Fail;
 
 /// Variables, Sorts, functions and applications.
@@ -323,6 +326,7 @@ fn counts(table: &mut Table<'_>) {
     table.row(constructor(a, 4, 1, 0), "Fails(Con, 1)");
     table.row(constructor(a, 4, 0, 1), "Fails(Con, 1)");
     table.row(constructor(a, 5, 0, 0), "Fails(Con, 1)");
+    table.row(constructor(a, 99, 0, 0), "Fails(Con, 1)");
     table.row(action(a, ActKind::Pure, int(3)), "Fails(Act, 1)");
     table.row(pure(a, Ok(Term::Sort(0)), Ok(Term::IntTy)), "Fails(Act, 1)");
 }
@@ -341,5 +345,26 @@ fn rules_are_judged(rt: HostRuntime) -> Result<(), Fail> {
     erased(&mut table);
     let wrong = table.wrong;
     assert!(rt; wrong.is_none(), "{wrong:?}");
+    Ok(())
+}
+
+/// In the context of a linear Int and then a String the Int is variable 1, and it is used once.
+#[test]
+fn uses_are_of_the_newest_variable_first(rt: HostRuntime) -> Result<(), Fail> {
+    let alloc = rt.alloc();
+    let globals = Globals::prim(alloc)?;
+    let context = Ctx {
+        vars: vec![in alloc; (ONE, Term::IntTy), (MANY, Term::StringTy)]?,
+        names: Vec::new(alloc),
+    };
+    let older = Term::Var(1);
+    let answer = infer(alloc, &BySubst, 0, &globals, &context, Sigma::Run, &older);
+    let Ok((ty, uses)) = answer else {
+        return Err(Fail::from("refused"));
+    };
+    assert!(rt; ty.same(&Term::IntTy));
+    assert_eq!(rt; uses.len(), 2);
+    assert!(rt; matches!(uses.get(0), Mult::Zero));
+    assert!(rt; matches!(uses.get(1), Mult::One));
     Ok(())
 }
