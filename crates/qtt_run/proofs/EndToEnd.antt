@@ -10,7 +10,7 @@ use Rattle.qtt_preserve.proofs.Facts.{never_stuck_holds, tapes_closed_once_holds
 use Rattle.qtt_run.specs.Code.{Lists, code, first_block}
 use Rattle.qtt_run.specs.CodeRun.{Seen, seen_of, Runs, start}
 use Rattle.qtt_run.specs.Laws.{CodeRunsAsFullRuns, ClosesTapes}
-use Rattle.qtt_run.proofs.Running.{code-follows}
+use Rattle.qtt_run.proofs.RunsBeside.{code-follows}
 use Rattle.qtt_run.proofs.Unique.{runs-are-one}
 
 pub code-runs-as-full-runs : (E : Env) → WellFormed E → Complete E → (ds : List GlobalId) → Lists E ds → (main : GlobalId) →

@@ -22,7 +22,7 @@ use Rattle.qtt_run.specs.Laws.{CodeKeepsTypes}
 use Rattle.qtt_run.proofs.Evaluating.{answers-as, start-represents}
 use Rattle.qtt_run.proofs.Jumping.{Jumps, jump, EndsTyped, ends-typed}
 use Rattle.qtt_run.proofs.Performing.{beside, Alike, perform-alike}
-use Rattle.qtt_run.proofs.Running.{run-beside}
+use Rattle.qtt_run.proofs.RunsBeside.{run-beside}
 
 beside-is : {E : Env} {ds : List GlobalId} {f : full.Config} {c : Config} → Beside E ds f c → beside c.now c.waiting f ≡ c
 beside-is {f = f} {c = c} b =

@@ -5,3 +5,9 @@ pub mod Beside
 pub mod Laws
 pub mod Rows
 pub mod Compiled
+pub mod Program
+pub mod Stop
+pub mod Lines
+pub mod Handles
+pub mod Deed
+pub mod Underway

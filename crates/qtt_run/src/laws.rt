@@ -13,6 +13,8 @@ ghost use Rattle.qtt_lower.specs.Source.{HasWholeBodies};
 ghost use Rattle.qtt_lower.specs.declared.program.Compiled.{Compiled};
 ghost use Rattle.qtt_lower.specs.Whole.{IsProgramOf};
 ghost use Rattle.qtt_run.specs.Compiled.{IsCodeOf};
+ghost use Rattle.qtt_run.specs.Program.{IsCodeOfMain};
+ghost use Rattle.qtt_term.specs.Globals.{env};
 ghost use Rattle.qtt_run.specs.Code.{Lists, code, first_block};
 ghost use Rattle.qtt_run.specs.CodeRun.{Seen, Runs, start};
 ghost use Rattle.qtt_run.specs.Laws.{TypedCodeAnswers, CodeKeepsTypes, RunsAddEvents, RunsAreOne, CodeRunsAsFullRuns, ClosesTapes};
@@ -28,9 +30,11 @@ pub fn typed_environments_have_whole_bodies()
     ensures { (E : Env) → WellFormed E → HasWholeBodies E }
 {}
 
-/// What lowering a whole environment gives is its code, in the sense of the laws below.
+/// What lowering a whole environment gives is its code, in the sense of the laws below; and it is the code of each main, as a run asks for.
 pub fn compiled_is_code()
-    ensures { (g : Globals) (c : Compiled) → IsProgramOf g c → IsCodeOf g c }
+    ensures code { (g : Globals) (c : Compiled) → IsProgramOf g c → IsCodeOf g c }
+    ensures main { (g : Globals) (c : Compiled) (main : GlobalId) → IsProgramOf g c → WellFormed (env g) → Complete (env g) → IsMain (env g) main →
+        IsCodeOfMain c main (env g) }
 {}
 
 /// The machine over the code of a typed environment is never stuck, and answers what full evaluation gives, a tick for a step.

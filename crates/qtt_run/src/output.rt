@@ -1,0 +1,22 @@
+//! The output of a run.
+
+ghost use Rattle.std.specs.Prelude.{◌++◌, ◌∷◌, [], OnOk, OnErr, IsErrOf};
+ghost use Rattle.qtt_edge.specs.Counts.{Counts};
+ghost use Rattle.qtt_edge.specs.Sink.{Adds, AddsFront};
+
+use crate::stop::Stop;
+use qtt_edge::Sink;
+use std::alloc::Global;
+
+/// Puts a line and its byte 10, at once.
+pub(crate) fn put_line<O: Sink>(alloc: Global, out: &mut O, line: &str) -> Result<(), Stop>
+    ensures ok { OnOk result (Adds (O.content out.old) (O.content out.new) (line.now ++ 10 ∷ [])) }
+    ensures err { OnErr result (AddsFront (O.content out.old) (O.content out.new) (line.now ++ 10 ∷ [])) }
+    ensures no_source { IsErrOf result Stop.Source → ⊥ }
+    ensures no_tape { IsErrOf result Stop.Tape → ⊥ }
+    ensures failed { Counts (O.faults out.old) (O.faults out.new) (IsErrOf result Stop.Sink) }
+{
+    let bytes = format!(in alloc; "{line}\n")?;
+    out.put(bytes.as_bytes())?;
+    Ok(())
+}
