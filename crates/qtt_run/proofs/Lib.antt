@@ -29,3 +29,6 @@ pub mod Reading
 pub mod Handling
 pub mod Closing
 pub mod Outcome
+pub mod Judging
+pub mod Runnable
+pub mod Worked

@@ -11,3 +11,5 @@ pub mod Lines
 pub mod Handles
 pub mod Deed
 pub mod Underway
+pub mod Programs
+pub mod Worked
