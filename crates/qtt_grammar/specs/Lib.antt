@@ -14,4 +14,5 @@ pub mod Chain
 pub mod ChainReaders
 pub mod Outcome
 pub mod ChainView
+pub mod ChainExamples
 pub mod Joined

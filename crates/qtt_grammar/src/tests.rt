@@ -6,6 +6,10 @@ use qtt_syntax::print;
 use std::alloc::Global;
 use std::test::Fail;
 
+mod fronts;
+mod places;
+mod rows;
+
 // A fault as its place, kind, word and count.
 fn written(alloc: Global, fault: &Fault) -> Result<String, Fail> {
     let mut out = String::new(alloc);
@@ -44,7 +48,7 @@ fn told(alloc: Global, text: &str) -> Result<String, Fail> {
     }
 }
 
-static TEXTS: [(&str, &str); 18] = [
+static TEXTS: [(&str, &str); 22] = [
     ("module Main", "module Main\n"),
     (
         "module Main\nimport A.B ; import C",
@@ -107,6 +111,19 @@ static TEXTS: [(&str, &str); 18] = [
     (
         "module Main\nf = do x <- a ; let 0 y : B = b ; let z = c in d ; _ <- e ; g h",
         "module Main\nf = do\n  x <- a\n  let 0 y : B = b\n  let z = c in d\n  _ <- e\n  g h\n",
+    ),
+    (
+        "module Main\nf = do let _ = a ; ?b",
+        "module Main\nf = do\n  let _ = a\n  ?b\n",
+    ),
+    ("module Main\nf = (Type) 5", "module Main\nf = Type 0 5\n"),
+    (
+        "module Main\nf = g { -5 } (\\x => x)",
+        "module Main\nf = g { -5} (\\x => x)\n",
+    ),
+    (
+        "module Main\nf = \"a\\n\\t\\\\\\\"\"",
+        "module Main\nf = \"a\\n\\t\\\\\\\"\"\n",
     ),
 ];
 
@@ -190,7 +207,7 @@ fn verdict(alloc: Global, row: &Row, count: u32) -> Result<String, Fail> {
     Ok(out)
 }
 
-static LEVELS: [Row; 9] = [
+static LEVELS: [Row; 13] = [
     ("x = ", "(", "a", ")", "", 200, "2:205 9"),
     ("x = ", "\\y => ", "a", "", "", 200, "2:1205 9"),
     ("x = ", "let y = a in ", "a", "", "", 200, "2:2605 9"),
@@ -200,9 +217,13 @@ static LEVELS: [Row; 9] = [
     ("x : ", "{0 a : T} -> ", "a", "", "", 200, "2:2605 9"),
     ("f ", "(", "y", ")", " = a", 200, "2:203 9"),
     ("f .(", "(", "y", ")", ") = a", 199, "2:204 9"),
+    ("f ", "(", ".(y)", ")", " = a", 199, "2:203 9"),
+    ("x : Int\nx = ", "(", "3", ")", "", 200, "3:205 9"),
+    ("x : ", "(a : T) -> ", "a", "", "", 200, "2:2205 9"),
+    ("x = (", "do let y = (", "a", ") ; b", ")", 66, "2:801 9"),
 ];
 
-static COUNTS: [Row; 12] = [
+static COUNTS: [Row; 13] = [
     (
         "f",
         " x",
@@ -285,6 +306,15 @@ static COUNTS: [Row; 12] = [
         "1003:1 31 clauses of a definition 1001",
     ),
     (
+        "f : Int -> Int",
+        "\nf x = 0",
+        "",
+        "",
+        "",
+        1_000,
+        "1003:1 31 clauses of a definition 1001",
+    ),
+    (
         "",
         "x : a\n",
         "",
@@ -349,32 +379,5 @@ fn limit_comes_before_faults_inside(rt: HostRuntime) -> Result<(), Fail> {
         verdict(rt.alloc(), &FAULTY, FAULTY.5.saturating_add(1))?.as_str(),
         "3:507 31 parameters, indices, fields, or patterns of one thing 101"
     );
-    Ok(())
-}
-
-// A program with families over indices, in the printer's layout.
-static PROGRAM: &str = "module Main
-data Nat : Type where
-  Z : Nat
-  S : Nat -> Nat
-plus : Nat -> Nat -> Nat
-plus Z m = m
-plus (S n) m = S (plus n m)
-data Vect (a : Type) : Nat -> Type where
-  Nil : Vect a Z
-  Cons : (0 k : Nat) -> (1 x : a) -> (1 xs : Vect a k) -> Vect a (S k)
-append : (0 a : Type) -> (0 m : Nat) -> (0 n : Nat) -> (1 xs : Vect a m) -> (1 ys : Vect a n) -> Vect a (plus m n)
-append a _ n Nil ys = ys
-append a _ n (Cons k x xs) ys = Cons (plus k n) x (append a k n xs ys)
-total : (0 n : Nat) -> Vect Int n -> Int
-total _ Nil = 0
-total _ (Cons k x xs) = addInt x (total k xs)
-main : IO Unit
-main = putLine (showInt (total (plus (S (S Z)) (S Z)) (append Int (S (S Z)) (S Z) (Cons (S Z) 4 (Cons Z 5 Nil)) (Cons Z 6 Nil))))
-";
-
-#[test]
-fn a_program_is_read(rt: HostRuntime) -> Result<(), Fail> {
-    assert_eq!(rt; told(rt.alloc(), PROGRAM)?.as_str(), PROGRAM);
     Ok(())
 }
