@@ -144,6 +144,7 @@ module _ (Fit : Word → Type 0) (wild : Fit (Word.named (codes "_"))) (pass : P
     pub expr : (tail : Bool) → Holds (inner.expr tail) (Inside tail l)
     pub statement : (tail : Bool) → Holds (inner.statement tail) (λ s. formed.Statement_formed Fit pass s × ((statement_in_hole s ≡ true → tail ≡ true) × (suc (need_statement s) ≤ l)))
     pub typing : Holds inner.typing (λ t. formed.Typing_formed Fit pass t × (suc (need t) ≤ l))
+    pub binder : Holds inner.binder (λ b. formed.Binder_formed Fit pass b × (suc (need_binder b) ≤ l))
     pub pattern : Holds inner.pattern (λ p. formed.Shape_formed Fit pass p × (suc (need_shape p) ≤ l))
     pub other_pattern : Holds inner.other_pattern (λ p. formed.Shape_formed Fit pass p × (suc (need_shape p) ≤ l))
 
@@ -170,9 +171,9 @@ module _ (Fit : Word → Type 0) (wild : Fit (Word.named (codes "_"))) (pass : P
   app_fits l s f [] h g = (h.0, (h.1.0, app_least f (need f) l h.1.1))
   app_fits l s f (a ∷ more) h g = (((h.0, h.1.0), (refl, g.0)), (refl, omega (arith, h.1.1, g.1)))
 
-  binders_fit : (l : ℕ) (bs : List Binder) → Each (λ b. formed.Binder_formed Fit pass b × (need_binder b ≤ l)) bs → formed.Binders_formed Fit pass (binders bs) × (need_binders (binders bs) ≤ l)
-  binders_fit l [] e = (tt, omega arith)
-  binders_fit l (b ∷ more) e = let rest = binders_fit l more e.1 in ((e.0.0, rest.0), omega (arith, e.0.1, rest.1))
+  binders_fit : (l : ℕ) (bs : List Binder) → 1 ≤ l → Each (λ b. formed.Binder_formed Fit pass b × (suc (need_binder b) ≤ l)) bs → formed.Binders_formed Fit pass (binders bs) × (suc (need_binders (binders bs)) ≤ l)
+  binders_fit l [] h e = (tt, h)
+  binders_fit l (b ∷ more) h e = let rest = binders_fit l more h e.1 in ((e.0.0, rest.0), omega (arith, e.0.1, rest.1))
 
   abbrev Statement_fits : Bool → ℕ → Statement → Type 0
   Statement_fits tail l s = formed.Statement_formed Fit pass s × ((statement_in_hole s ≡ true → tail ≡ true) × (suc (need_statement s) ≤ l))
@@ -249,8 +250,8 @@ module _ (Fit : Word → Type 0) (wild : Fit (Word.named (codes "_"))) (pass : P
 
     lambda_holds : (tail : Bool) → Holds (Lambda pass may inner tail) (Expression tail l)
     lambda_holds tail =
-        made_gives lambda_of (opened_gives may is_backslash (λ m. (binder_holds then_gives many_gives binder_holds) then_gives symbol is_fat_arrow then_gives (inside m).expr tail))
-        (λ a r. let more = binders_fit l a.1.0.1 r.0.1 in ((refl, ((r.0.0.0, more.0), r.1.1.0)), (r.1.1.1.0, omega (arith, r.0.0.1, more.1, r.1.1.1.1))))
+        made_gives lambda_of (opened_gives may is_backslash (λ m. ((inside m).binder then_gives many_gives (inside m).binder) then_gives symbol is_fat_arrow then_gives (inside m).expr tail))
+        (λ a r. let more = binders_fit l a.1.0.1 (omega (arith, r.0.0.1)) r.0.1 in ((refl, ((r.0.0.0, more.0), r.1.1.0)), (r.1.1.1.0, omega (arith, r.0.0.1, more.1, r.1.1.1.1))))
 
     -- ---- `let`
 
@@ -378,6 +379,7 @@ module _ (Fit : Word → Type 0) (wild : Fit (Word.named (codes "_"))) (pass : P
       expr = λ tail. wider_gives (λ t r. (r.0, (r.1.0, omega (arith, r.1.1)))) (expr_holds tail);
       statement = λ tail. wider_gives (λ t r. (r.0, (r.1.0, omega (arith, r.1.1)))) (statement_holds tail);
       typing = wider_gives (λ t r. (r.0, omega (arith, r.1))) typing_holds;
+      binder = wider_gives (λ b r. (r.0, omega (arith, r.1))) binder_holds;
       pattern = wider_gives (λ t r. (r.0, omega (arith, r.1))) pattern_holds;
       other_pattern = wider_gives (λ t r. (r.0, omega (arith, r.1))) other_pattern_holds;
     }

@@ -32,6 +32,7 @@ pub record LevelDeep (may : Bool) (R S : LevelReader) : Type 0 where
   pub expr : (tail : Bool) → Deep may (R.expr tail) (S.expr tail)
   pub statement : (tail : Bool) → Deep may (R.statement tail) (S.statement tail)
   pub typing : Deep may R.typing S.typing
+  pub binder : Deep may R.binder S.binder
   pub pattern : Deep may R.pattern S.pattern
   pub other_pattern : Deep may R.other_pattern S.other_pattern
   pub statements_grow : may ≡ true → (tail : Bool) → CapGrows (R.starts_statement tail) (S.starts_statement tail) R.bad_statement S.bad_statement
@@ -68,13 +69,13 @@ module _ (pass : Pass) (may : Bool) (R S : LevelReader) (d : LevelDeep may R S) 
   unfolding typed_at
   typed = making typed_of (opened _ may is_left_paren (mark andthen (local is_bname andthen (symbol is_colon andthen (d.expr false andthen symbol is_right_paren)))))
 
-  binder : {o : Bool} → Deep o (binder_at pass may R) (binder_at pass true S)
+  a_binder : {o : Bool} → Deep o (binder_at pass may R) (binder_at pass true S)
   unfolding binder_at
-  binder = either (begins (of is_bname)) (making plain (local is_bname)) typed
+  a_binder = either (begins (of is_bname)) (making plain (local is_bname)) typed
 
   lambda : {o : Bool} (tail : Bool) → Deep o (lambda_at pass may R tail) (lambda_at pass true S tail)
   unfolding lambda_at
-  lambda tail = making lambda_of (opened _ may is_backslash ((binder andthen many (of starts_binder) binder) andthen (symbol is_fat_arrow andthen d.expr tail)))
+  lambda tail = making lambda_of (opened _ may is_backslash ((d.binder andthen many (of starts_binder) d.binder) andthen (symbol is_fat_arrow andthen d.expr tail)))
 
   annotation : Deep may (annotation_at pass may R) (annotation_at pass true S)
   unfolding annotation_at
@@ -238,6 +239,7 @@ level_deep pass may R S d o = record {
   expr = λ tail. an_expr pass may R S d tail;
   statement = λ tail. a_statement pass may R S d tail;
   typing = a_typing pass may R S d;
+  binder = a_binder pass may R S d;
   pattern = a_pattern pass may R S d;
   other_pattern = another_pattern pass may R S d;
   statements_grow = λ e tail. record { more = statement_more may tail; same = statement_same may tail; deep = statement_deep may tail };
@@ -273,6 +275,7 @@ closed_deep pass d =
       expr = λ tail. keeping (exact_keeps (i.expr tail).exact);
       statement = λ tail. keeping (exact_keeps (i.statement tail).exact);
       typing = keeping (exact_keeps i.typing.exact);
+      binder = keeping (exact_keeps i.binder.exact);
       pattern = keeping (exact_keeps i.pattern.exact);
       other_pattern = keeping (exact_keeps i.other_pattern.exact);
       statements_grow = λ e. absurd (let h = e in cc);

@@ -101,6 +101,7 @@ pub record FaultlessLevel (L : Level) : Type 0 where
   pub expr : (tail : Bool) → Faultless (L.expr tail)
   pub statement : (tail : Bool) → Faultless (L.statement tail)
   pub typing : Faultless L.typing
+  pub binder : Faultless L.binder
   pub pattern : Faultless L.pattern
   pub other_pattern : Faultless L.other_pattern
 
@@ -112,7 +113,7 @@ module _ (may : Bool) (L : Level) (inner : FaultlessLevel L) where
   binder = either (make plain (locally is_bname)) typed
 
   pub lambda : (tail : Bool) → Faultless (Lambda Free may L tail)
-  lambda tail = make lambda_of (seq (opener may is_backslash) (seq (seq binder (many binder)) (seq (symbol is_fat_arrow) (inner.expr tail))))
+  lambda tail = make lambda_of (seq (opener may is_backslash) (seq (seq inner.binder (many inner.binder)) (seq (symbol is_fat_arrow) (inner.expr tail))))
 
   annotation : Faultless (IsAnnotation Free may L)
   annotation = perhaps untyped (make annotation_of (seq (symbol is_colon) (inner.expr false)))
@@ -186,6 +187,7 @@ module _ (may : Bool) (L : Level) (inner : FaultlessLevel L) where
     expr = expr;
     statement = statement;
     typing = either implicit (expr false);
+    binder = binder;
     pattern = either (make bare_of (tok (of is_constructor) named_of)) other_pattern;
     other_pattern = other_pattern;
   }
@@ -195,6 +197,7 @@ simple_level = record {
   expr = λ _. make name (tok (of is_name) named_of);
   statement = λ _. make run_of (placed (make name (tok (of is_name) named_of)));
   typing = make name (tok (of is_name) named_of);
+  binder = make plain (locally is_bname);
   pattern = tok (of is_pattern_word) (λ x. pattern_word x.class x);
   other_pattern = tok (of is_pattern_word) (λ x. pattern_word x.class x);
 }

@@ -55,7 +55,7 @@ abbrev mutual
   need (the t e s) = max (wrapped_need (is_atom t) (need t)) (wrapped_need (is_atom e) (need e))
   need (apply f args s) = max (wrapped_need (is_atom f) (need f)) (need_arguments args)
   need (pi k m n a b s) = max (domain_need k m n a (need a)) (suc (need b))
-  need (lambda bs t s) = max (need_binders bs) (suc (need t))
+  need (lambda bs t s) = max (suc (need_binders bs)) (suc (need t))
   need (letting m n t e b s) = max (suc (need_annotation t)) (max (suc (need e)) (suc (need b)))
   need (doing ss s) = suc (need_statements ss)
 

@@ -95,7 +95,7 @@ module _ (pass : Pass) (inner : Level) where
   pub plain_words : (may : Bool) (n : Local) → is_bname (named_class n.name) ≡ true → Prints (IsBinder pass may inner) (named n.name ∷ []) (λ b. bare_binder b ≡ plain (bare_local n))
   plain_words may n e = first_of (made plain (locally is_bname n.name e) (λ a r. let x = r in cc))
 
-  pub lambda_words : (tail : Bool) (bs : Binders) (t : Tree) (s : Span) (us ws : List Lexeme) → Prints (Some_of (IsBinder pass true inner)) us (λ p. SameBinders bs (p.0 ∷ p.1)) → Prints (inner.expr tail) ws (Same t) → Prints (Lambda pass true inner tail) (mark class.Backslash ∷ (us ++ mark class.FatArrow ∷ ws)) (Same (lambda bs t s))
+  pub lambda_words : (tail : Bool) (bs : Binders) (t : Tree) (s : Span) (us ws : List Lexeme) → Prints (Some_of inner.binder) us (λ p. SameBinders bs (p.0 ∷ p.1)) → Prints (inner.expr tail) ws (Same t) → Prints (Lambda pass true inner tail) (mark class.Backslash ∷ (us ++ mark class.FatArrow ∷ ws)) (Same (lambda bs t s))
   lambda_words tail bs t s us ws p q =
       made lambda_of (opening is_backslash class.Backslash refl then_prints p then_prints symbol is_fat_arrow class.FatArrow refl then_prints q) (λ a r. let x = r.1.0 in let y = r.1.1.1 in cc)
 

@@ -19,17 +19,17 @@ use Rattle.qtt_phrase.proofs.Forms.{Reads, tok, make, seq, join, follow, alt, st
 use Rattle.qtt_grammar.specs.declared.class.Class.{Class}
 use Rattle.qtt_grammar.specs.declared.class.Class.TheVariants as class
 use Rattle.qtt_grammar.specs.declared.class.Pass.{Pass}
-use Rattle.qtt_grammar.specs.Classes.{is_open, is_close, is_do, is_let, is_in, is_the, is_zero, is_hole, is_wildcard, is_left_paren, is_right_paren, is_dot_paren, is_arrow, is_left_arrow, is_colon, is_equals, is_backslash, is_left_brace, is_right_brace, is_name, is_simple, is_constructor, is_bname, is_word, is_pattern_word, is_fat_arrow, starts_pattern}
+use Rattle.qtt_grammar.specs.Classes.{is_open, is_close, is_do, is_let, is_in, is_the, is_zero, is_hole, is_wildcard, is_left_paren, is_right_paren, is_dot_paren, is_arrow, is_left_arrow, is_colon, is_equals, is_backslash, is_left_brace, is_right_brace, is_name, is_simple, is_constructor, is_bname, is_word, is_pattern_word, is_fat_arrow, starts_binder, starts_pattern}
 use Rattle.qtt_grammar.specs.declared.lexeme.Lexeme.{Lexeme}
 use Rattle.qtt_grammar.specs.Lexeme.{sign, word}
 use Rattle.qtt_grammar.specs.declared.stop.Excess.{Excess}
 use Rattle.qtt_grammar.specs.Limits.{excess_of}
-use Rattle.qtt_grammar.specs.Grammar.{Says, of, place, word_of, typed_of, lambda_of, let_parts, do_of, bracket_of, the_of, named_app_of, other_app_of, arrow_of, pi_of, Typed, Bracket, OtherAtom, IsAtom, IsMark, The, NamedApp, OtherApp, IsBinder, IsAnnotation, Symbol, Opening, local_of, named_of, Locally, mult_of, pattern_word, Counted, Up_to, let_statement_of, after_in, bind_of, run_of, implicit_of, group_of, nested_of, bracketed_of, dot_of, bare_of, standing_of, may_end, Level, Hole, Lambda, Doing, Pi, Arrow, OtherExpr, IsExpr, LetStatement, Binding, IsStatement, Implicit, IsTyping, Inside, Bracketed, Dot, OtherPattern, IsPattern, Shape_of, Simple_level, levels}
+use Rattle.qtt_grammar.specs.Grammar.{Says, of, place, word_of, typed_of, lambda_of, let_parts, do_of, bracket_of, the_of, named_app_of, other_app_of, arrow_of, pi_of, Typed, Bracket, OtherAtom, IsAtom, IsMark, The, NamedApp, OtherApp, IsAnnotation, Symbol, Opening, local_of, named_of, Locally, mult_of, pattern_word, Counted, Up_to, let_statement_of, after_in, bind_of, run_of, implicit_of, group_of, nested_of, bracketed_of, dot_of, bare_of, standing_of, may_end, Level, Hole, Lambda, Doing, Pi, Arrow, OtherExpr, IsExpr, LetStatement, Binding, IsStatement, Implicit, IsTyping, Inside, Bracketed, Dot, OtherPattern, IsPattern, Shape_of, Simple_level, levels}
 use Rattle.qtt_grammar.specs.Readers.{symbol_at, opener_at, local_at, LevelReader, begins_binder, begins_bind, statement_starts, pattern_starts, up_to_at, pi_at, arrow_at, other_expr_at, expr_at, let_statement_at, binding_at, statement_at, implicit_at, typing_at, patterns_at, inside_at, bracketed_at, dot_at, other_pattern_at, pattern_at, level_at, simple_reader, levels_at}
 use Rattle.qtt_grammar.proofs.Decide.{apart, among, every, implies}
 use Rattle.qtt_grammar.proofs.Sets.{goes, starts_arrow, starts_other, starts_expr, starts_typing, starts_other_pattern, goes_or_in, halts, At}
 use Rattle.qtt_grammar.proofs.Looks.{Looks, other_looks, expr_looks}
-use Rattle.qtt_grammar.proofs.Levels.{Inner, Headed, symbol, symbol_some, opener, locally, locally_some, up_to, closed, closed_some, lambda_reads, letting_reads, let_head_reads, doing_reads, arrow_reads, pi_reads, hole_reads, lines_some, block_sample}
+use Rattle.qtt_grammar.proofs.Levels.{Inner, Headed, symbol, symbol_some, opener, locally, locally_some, up_to, closed, closed_some, binder_reads, binder_some, lambda_reads, letting_reads, let_head_reads, doing_reads, arrow_reads, pi_reads, hole_reads, lines_some, block_sample}
 use Rattle.qtt_grammar.proofs.Choices.{binder_choice, or_true, and_true, not_true, bad_by, bad_not_judged}
 
 rest_is : (r : Read Lexeme Excess Tree) (o : Option Excess) (a b : Tree) (rest more : List Lexeme) → r ≡ got b more → Judged o a rest r → more ≡ rest
@@ -322,10 +322,10 @@ module _ {p : Span} (pass : Pass) (may : Bool) (L : Level) (R : LevelReader) (in
   lambda_run : (tail : Bool) (x : Lexeme) → opens may (of is_backslash) x ≡ true → Started (IsStatement pass may L tail) (x ∷ [])
   unfolding sample_making sample_then sample_token
   lambda_run tail x e =
-      let b : Sample (At p) (IsBinder pass may L) = record { tokens = a_name ∷ []; value = plain (local_of a_name); fault = None; means = inl (local_of a_name, (a_name, refl, refl, refl, refl), refl); mild = tt } in
-      let m : Sample (At p) (Many (IsBinder pass may L)) = record { tokens = []; value = []; fault = None; means = (refl, refl); mild = tt } in
+      let b = inner.binder_some in
+      let m : Sample (At p) (Many L.binder) = record { tokens = []; value = []; fault = None; means = (refl, refl); mild = tt } in
       let s = sample_making lambda_of (sample_then (sample_token (opens may (of is_backslash)) place x e) (sample_then (sample_then b m) (sample_then (sample_token (of is_fat_arrow) place (sign class.FatArrow p) refl) (inner.expr_some tail)))) in
-      starts_run tail x (a_name ∷ sign class.FatArrow p ∷ (inner.expr_some tail).tokens) s.value s.fault (inr (inl s.means))
+      starts_run tail x ((b.tokens ++ []) ++ sign class.FatArrow p ∷ (inner.expr_some tail).tokens) s.value s.fault (inr (inl s.means))
 
   -- a form that begins with the token
   record Form (x : Lexeme) {A : Type 0} (P : Says A) : Type 0 where
@@ -506,6 +506,8 @@ module _ {p : Span} (pass : Pass) (may : Bool) (L : Level) (R : LevelReader) (in
     statement_starts = λ tail x h. started_at tail x x.class refl h;
     typing = typing_reads;
     typing_some = (let s = expr_some false in record { tokens = s.tokens; value = s.value; fault = s.fault; means = inr s.means; mild = s.mild });
+    binder = binder_reads pass may L R inner;
+    binder_some = binder_some pass may L R inner;
     pattern = record { exact = pattern_exact; begins = begins_pattern };
     pattern_starts = λ x h. pattern_started x x.class refl h;
     pattern_among = among (pattern_starts may) starts_pattern (by_both may (λ m. every (λ c. implies (pattern_starts m c) (starts_pattern c))) refl refl);
@@ -529,6 +531,8 @@ simple_inner p =
       statement_starts = λ _ y h. record { more = []; value = run_of (y.place, name (named_of y)); fault = None; means = ((y.place, name (named_of y)), (y, [], refl, refl, (named_of y, (y, refl, h, refl, refl), refl)), refl) };
       typing = ending (of goes) (nothing_among (of goes)) (starting (of starts_typing) (among is_name starts_typing refl) named);
       typing_some = record { tokens = x ∷ []; value = name (named_of x); fault = None; means = (named_of x, (x, refl, refl, refl, refl), refl); mild = tt };
+      binder = starting (of starts_binder) (among is_bname starts_binder refl) (make plain (tok (of is_bname) local_of));
+      binder_some = record { tokens = x ∷ []; value = plain (local_of x); fault = None; means = (local_of x, (x, refl, refl, refl, refl), refl); mild = tt };
       pattern = word_pattern;
       pattern_starts = λ y h. record { more = []; value = pattern_word y.class y; fault = None; means = (y, refl, h, refl, refl) };
       pattern_among = among is_pattern_word starts_pattern refl;

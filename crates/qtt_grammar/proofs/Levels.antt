@@ -45,6 +45,8 @@ pub record Inner (p : Span) (L : Level) (R : LevelReader) : Type 1 where
   pub statement_starts : (tail : Bool) (x : Lexeme) → R.starts_statement tail x ≡ true → Started (L.statement tail) (x ∷ [])
   pub typing : Reads (At p) L.typing (of starts_typing) (of goes) R.typing
   pub typing_some : Sample (At p) L.typing
+  pub binder : Reads (At p) L.binder (of starts_binder) nothing R.binder
+  pub binder_some : Sample (At p) L.binder
   pub pattern : Reads (At p) L.pattern R.starts_pattern nothing R.pattern
   pub pattern_starts : (x : Lexeme) → R.starts_pattern x ≡ true → Started L.pattern (x ∷ [])
   pub pattern_among : Among R.starts_pattern (of starts_pattern)
@@ -142,7 +144,7 @@ module _ {p : Span} (pass : Pass) (may : Bool) (L : Level) (R : LevelReader) (in
   unfolding binder_at
   binder_reads = starting (of starts_binder) (among_either (of is_bname) (of is_left_paren) (of starts_binder) (among is_bname starts_binder refl) (among is_left_paren starts_binder refl)) (alt nothing (make plain (locally is_bname)) typed_reads (apart is_bname is_left_paren refl) (nothing_among nothing) (nothing_among nothing))
 
-  binder_some : Sample (At p) (IsBinder pass may L)
+  pub binder_some : Sample (At p) (IsBinder pass may L)
   binder_some = record { tokens = word class.Wildcard p (codes "_") ∷ []; value = plain (local_of (word class.Wildcard p (codes "_"))); fault = None; means = inl (local_of (word class.Wildcard p (codes "_")), (word class.Wildcard p (codes "_"), refl, refl, refl, refl), refl); mild = tt }
 
   pub lambda_reads : (tail : Bool) → Reads (At p) (Lambda pass may L tail) (of is_backslash) (of goes) (lambda_at pass may R tail)
@@ -150,9 +152,9 @@ module _ {p : Span} (pass : Pass) (may : Bool) (L : Level) (R : LevelReader) (in
   lambda_reads tail =
       let behind = seq (symbol is_fat_arrow) (inner.expr tail).exact (inner.expr_some tail) in
       let behind_some = sample_then (symbol_some is_fat_arrow class.FatArrow refl) (inner.expr_some tail) in
-      let more = many (of starts_binder) binder_reads (λ x e. refl) (among_self (of starts_binder)) (nothing_among (of starts_binder)) in
-      let all = seq binder_reads more (sample_many (IsBinder pass may L)) in
-      let all_some = sample_then binder_some (sample_many (IsBinder pass may L)) in
+      let more = many (of starts_binder) inner.binder (λ x e. refl) (among_self (of starts_binder)) (nothing_among (of starts_binder)) in
+      let all = seq inner.binder more (sample_many L.binder) in
+      let all_some = sample_then inner.binder_some (sample_many L.binder) in
       make lambda_of (seq (opener may is_backslash) (join all behind behind_some (apart starts_binder is_fat_arrow refl)).exact (sample_then all_some behind_some))
 
   annotation_exact : Exact (At p) (IsAnnotation pass may L) (of goes_or_colon) (annotation_at pass may R)

@@ -326,7 +326,7 @@ module _ (Fit : Word → Type 0) (pass : Pass) where
     shown (lambda bs t s) f zero h = absurd (omega arith)
     shown (lambda no_binder t s) f (suc d) h = absurd (let e = f.0 in cc)
     shown (lambda (binder_and b more) t s) f (suc d) h =
-        from_other (suc d) (lambda (binder_and b more) t s) (λ e. absurd cc) (λ tail e. second_of (first_of (lambda_words pass (inner_at pass (suc d)) tail (binder_and b more) t s (say_binders (binder_and b more)) (say t) (some_binders (suc d) b more (shown_binder b f.1.0.0 (suc d) (omega arith)) (shown_binders more f.1.0.1 (suc d) (omega arith))) ((shown t f.1.1 d (omega arith)).expr tail e))))
+        from_other (suc d) (lambda (binder_and b more) t s) (λ e. absurd cc) (λ tail e. second_of (first_of (lambda_words pass (inner_at pass (suc d)) tail (binder_and b more) t s (say_binders (binder_and b more)) (say t) (some_binders d b more (shown_binder b f.1.0.0 d (omega arith)) (shown_binders more f.1.0.1 d (omega arith))) ((shown t f.1.1 d (omega arith)).expr tail e))))
     shown (letting m n t e b s) f zero h = absurd (omega arith)
     shown (letting m n t e b s) f (suc d) h =
         let head = let_words pass (inner_at pass (suc d)) m n.name t e (say_annotation t) (say e) f.0.0 (shown_annotation t f.1.0 d (omega arith)) ((shown e f.1.1.0.0 d (omega arith)).expr false (plain_ends e f.1.1.0.1)) in

@@ -4,8 +4,9 @@ use Rattle.qtt_base.specs.declared.place.Span.{Span}
 use Rattle.qtt_usage.specs.declared.mult.Mult.TheVariants as mult
 use Rattle.qtt_syntax.specs.declared.expr.Mark.TheVariants.{Written}
 use Rattle.qtt_syntax.specs.declared.expr.Target.TheVariants.{Unknown}
-use Rattle.qtt_syntax.specs.Tree.{Tree}
-use Rattle.qtt_syntax.specs.Tree.Tree.{name, pi}
+use Rattle.qtt_syntax.specs.Tree.{Tree, binders}
+use Rattle.qtt_syntax.specs.Tree.Tree.{name, pi, lambda}
+use Rattle.qtt_syntax.specs.Tree.Binder.{typed_binder}
 use Rattle.qtt_syntax.specs.Tree.Item.{signature}
 use Rattle.qtt_syntax.specs.Tree.Module.{module_text}
 use Rattle.qtt_phrase.specs.Reading.Read.{got, bad}
@@ -14,7 +15,7 @@ use Rattle.qtt_grammar.specs.declared.class.Class.TheVariants as class
 use Rattle.qtt_grammar.specs.declared.class.Pass.TheVariants.{Counts}
 use Rattle.qtt_grammar.specs.declared.lexeme.Lexeme.{Lexeme}
 use Rattle.qtt_grammar.specs.Lexeme.{sign, word}
-use Rattle.qtt_grammar.specs.Readers.{expr_at, other_expr_at, arrow_at, app_at, named_app_at, atoms_at, typing_at, signing_at, defining_at, item_at, import_at, entry_at, entries_at, module_at, levels_at}
+use Rattle.qtt_grammar.specs.Readers.{mark_at, typed_at, binder_at, lambda_at, expr_at, other_expr_at, arrow_at, app_at, named_app_at, atoms_at, typing_at, signing_at, defining_at, item_at, import_at, entry_at, entries_at, module_at, levels_at}
 
 -- the place with a number
 abbrev pub at : ℕ → Span
@@ -47,3 +48,15 @@ arrow_too_deep = refl
 pub arrows_to_the_right : (levels_at Counts 2).expr false arrows ≡ got (pi Written mult.Many (codes "_") (name_of 1 (codes "a")) (pi Written mult.Many (codes "_") (name_of 3 (codes "b")) (name_of 5 (codes "c")) (at 3)) (at 1)) []
 unfolding levels_at expr_at other_expr_at arrow_at app_at named_app_at atoms_at
 arrows_to_the_right = refl
+
+-- the bracket of a binder of a `\` is a nesting level inside the `\`
+pub bracket_too_deep : (more : List Lexeme) → (levels_at Counts 1).expr false (sign class.Backslash (at 1) ∷ sign class.LeftParen (at 2) ∷ more) ≡ bad too_deep (sign class.LeftParen (at 2) ∷ more)
+unfolding levels_at expr_at other_expr_at lambda_at binder_at typed_at
+bracket_too_deep more = refl
+
+abbrev pub bound_in_brackets : List Lexeme
+bound_in_brackets = sign class.Backslash (at 1) ∷ sign class.LeftParen (at 2) ∷ word class.Small (at 3) (codes "a") ∷ sign class.Colon (at 4) ∷ word class.Small (at 5) (codes "b") ∷ sign class.RightParen (at 6) ∷ sign class.FatArrow (at 7) ∷ word class.Small (at 8) (codes "c") ∷ []
+
+pub bracket_inside_function : (levels_at Counts 2).expr false bound_in_brackets ≡ got (lambda (binders (typed_binder mult.Many (record { name = codes "a"; span = at 3 }) (name_of 5 (codes "b")) (at 2) ∷ [])) (name_of 8 (codes "c")) (at 1)) []
+unfolding levels_at expr_at other_expr_at lambda_at binder_at typed_at mark_at arrow_at app_at named_app_at atoms_at
+bracket_inside_function = refl

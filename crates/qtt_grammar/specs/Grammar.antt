@@ -245,6 +245,8 @@ pub record Level : Type 1 where
   pub expr : Bool → Says Tree
   pub statement : Bool → Says Statement
   pub typing : Says Tree
+  -- a binder of a `\`
+  pub binder : Says Binder
   pub pattern : Says Shape
   -- a pattern that doesn't begin with a constructor
   pub other_pattern : Says Shape
@@ -259,9 +261,9 @@ module _ (pass : Pass) (may : Bool) (inner : Level) where
   abbrev pub IsBinder : Says Binder
   IsBinder = Making plain (Locally is_bname) or Typed
 
-  -- "\" lbind+ "=>" expr
+  -- "\" lbind+ "=>" expr, where the bracket of an lbind opens a level inside that of the "\"
   abbrev pub Lambda : Bool → Says Tree
-  Lambda tail = Making lambda_of (Opening may is_backslash then Some_of IsBinder then Symbol is_fat_arrow then inner.expr tail)
+  Lambda tail = Making lambda_of (Opening may is_backslash then Some_of inner.binder then Symbol is_fat_arrow then inner.expr tail)
 
   -- [":" expr]
   abbrev pub IsAnnotation : Says Annotation
@@ -384,13 +386,14 @@ module _ (pass : Pass) (may : Bool) (inner : Level) where
   IsPattern = Making bare_of (Token (of is_constructor) named_of) or OtherPattern
 
   abbrev pub Shape_of : Level
-  Shape_of = record { expr = IsExpr; statement = IsStatement; typing = IsTyping; pattern = IsPattern; other_pattern = OtherPattern }
+  Shape_of = record { expr = IsExpr; statement = IsStatement; typing = IsTyping; binder = IsBinder; pattern = IsPattern; other_pattern = OtherPattern }
 
 abbrev pub Simple_level : Level
 Simple_level = record {
   expr = λ _. Making name (Token (of is_name) named_of);
   statement = λ _. Making run_of (Placed place (Making name (Token (of is_name) named_of)));
   typing = Making name (Token (of is_name) named_of);
+  binder = Making plain (Locally is_bname);
   pattern = Token (of is_pattern_word) (λ x. pattern_word x.class x);
   other_pattern = Token (of is_pattern_word) (λ x. pattern_word x.class x);
 }

@@ -76,6 +76,7 @@ pub record LevelReader : Type 0 where
   pub expr : Bool → Reads Tree
   pub statement : Bool → Reads Statement
   pub typing : Reads Tree
+  pub binder : Reads Binder
   pub pattern : Reads Shape
   pub other_pattern : Reads Shape
   -- the tokens with which a statement and a pattern begin, and why another one is bad
@@ -124,7 +125,7 @@ module _ (pass : Pass) (may : Bool) (inner : LevelReader) where
   binder_at = either_at (begins (of is_bname)) (making_at plain (local_at is_bname)) typed_at
 
   unfoldable pub lambda_at : Bool → Reads Tree
-  lambda_at tail = making_at lambda_of (then_at (opener_at may is_backslash) (then_at (then_at binder_at (many_at (of starts_binder) binder_at)) (then_at (symbol_at is_fat_arrow) (inner.expr tail))))
+  lambda_at tail = making_at lambda_of (then_at (opener_at may is_backslash) (then_at (then_at inner.binder (many_at (of starts_binder) inner.binder)) (then_at (symbol_at is_fat_arrow) (inner.expr tail))))
 
   unfoldable pub annotation_at : Reads Annotation
   annotation_at = perhaps_at (of is_colon) untyped (making_at annotation_of (then_at (symbol_at is_colon) (inner.expr false)))
@@ -233,6 +234,7 @@ module _ (pass : Pass) (may : Bool) (inner : LevelReader) where
     expr = expr_at;
     statement = statement_at;
     typing = typing_at;
+    binder = binder_at;
     pattern = pattern_at;
     other_pattern = other_pattern_at;
     starts_statement = λ tail x. statement_starts may tail x.class;
@@ -246,6 +248,7 @@ simple_reader = record {
   expr = λ _. making_at name (token_at (λ _. None) (of is_name) named_of);
   statement = λ _. making_at run_of (placed_at place (making_at name (token_at (λ _. None) (of is_name) named_of)));
   typing = making_at name (token_at (λ _. None) (of is_name) named_of);
+  binder = making_at plain (local_at is_bname);
   pattern = token_at (λ _. None) (of is_pattern_word) (λ x. pattern_word x.class x);
   other_pattern = token_at (λ _. None) (of is_pattern_word) (λ x. pattern_word x.class x);
   starts_statement = λ _. of is_name;

@@ -1,12 +1,12 @@
 //! Binders.
 
-ghost use Rattle.std.specs.Prelude.{map};
+ghost use Rattle.std.specs.Prelude.{◌<◌, map};
 ghost use Rattle.qtt_phrase.specs.Reading.{many_at, making_at, then_at};
 ghost use Rattle.qtt_syntax.specs.View.{tree_of, binder_of};
 ghost use Rattle.qtt_grammar.specs.Classes.{starts_binder};
 ghost use Rattle.qtt_grammar.specs.Grammar.{of};
 ghost use Rattle.qtt_grammar.specs.Readers.{typed_at, binder_at, lambda_at};
-ghost use Rattle.qtt_grammar.specs.View.{Answers, inside, with_front, both, MayReadBelow, ReadsBelow};
+ghost use Rattle.qtt_grammar.specs.View.{Answers, below, inside, with_front, both, MayReadBelow, ReadsBelow};
 
 use crate::class::Class;
 use crate::level::{Level, inner};
@@ -101,8 +101,22 @@ pub fn some_binders<'a, E: Fn(u32, bool, Rest<'a>) -> Reading<'a, Expr>>(
     more_binders(level, read, found, rest)
 }
 
+// The binders of the level inside: their brackets open while the `\` is open.
+fn inner_binders<'a, E: Fn(u32, bool, Rest<'a>) -> Reading<'a, Expr>>(
+    level: Level,
+    read: &E,
+    laid: Rest<'a>,
+) -> Reading<'a, Vec<Binder>>
+    requires may { 0 < level.left }
+    requires callable { MayReadBelow level.left (E.pre read.now) }
+    requires reads { ReadsBelow level.pass level.left (E.post read.now) }
+    ensures { Answers (λ v. map binder_of v.items) result (making_at both (then_at (below level.pass level.left).binder (many_at (of starts_binder) (below level.pass level.left).binder)) laid.now) }
+{
+    some_binders(level.below(), read, laid)
+}
+
 /// `\ binders => body`
-#[tactic(auto, using(crate::proofs::Below::below_is), unfolding(crate::specs::Readers::lambda_at))]
+#[tactic(auto, unfolding(crate::specs::Readers::lambda_at))]
 pub fn lambda<'a, E: Fn(u32, bool, Rest<'a>) -> Reading<'a, Expr>>(
     level: Level,
     read: &E,
@@ -114,7 +128,7 @@ pub fn lambda<'a, E: Fn(u32, bool, Rest<'a>) -> Reading<'a, Expr>>(
     ensures { Answers tree_of result (inside lambda_at level.pass level.left tail laid.now) }
 {
     let (span, rest) = opener(Class::Backslash, level.left, laid)?;
-    let (binders, rest) = some_binders(level, read, rest)?;
+    let (binders, rest) = inner_binders(level, read, rest)?;
     let (_, rest) = symbol(Class::FatArrow, rest)?;
     let (body, rest) = inner(level, read, tail, rest)?;
     Ok((
