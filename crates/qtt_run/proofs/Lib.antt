@@ -32,3 +32,4 @@ pub mod Outcome
 pub mod Judging
 pub mod Runnable
 pub mod Worked
+pub mod Building

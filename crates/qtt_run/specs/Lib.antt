@@ -11,5 +11,6 @@ pub mod Lines
 pub mod Handles
 pub mod Deed
 pub mod Underway
+pub mod Closed
 pub mod Programs
 pub mod Worked

@@ -12,3 +12,6 @@ mod running;
 mod stop;
 
 pub use program::{RunEnd, RunHow, run_program};
+
+#[cfg(test)]
+mod tests;
