@@ -11,8 +11,8 @@ use Rattle.qtt_term.specs.Term.{Term, same_id}
 use Rattle.qtt_term.specs.Substitution.{Closed}
 use Rattle.qtt_term.specs.Signature.{Family, Definition, Env, There, prim_id, family_of, bool_id, line_id, eq_id, unit_family, bool_family, line_family, eq_family}
 use Rattle.qtt_term.specs.Contraction.{Conv}
-use Rattle.qtt_term.specs.Judgement.{Part, Typed, Usable}
-use Rattle.qtt_term.specs.Environment.{NoTape, part_of, FamilyFormed, DefinitionFormed, WellFormed, Complete, IsMain}
+use Rattle.qtt_term.specs.Judgement.{Part, Typed}
+use Rattle.qtt_term.specs.Environment.{NoTape, part_of, FamilyFormed, DefinitionFormed, WellFormed, Complete}
 use Rattle.qtt_term.specs.PrimEnvironment.{prim_family, prim_env}
 use Rattle.qtt_term.specs.Programs.{item, listed, of_main, or, program, many, io_unit}
 use Rattle.qtt_term.proofs.Options.{none≢some, some-injective, cond-some}

@@ -1,7 +1,7 @@
 -- The worked programs are well formed and complete, and their further runs.
 use Rattle.std.specs.Prelude.{ℤ, pos, codes}
 use Rattle.std.proofs.lemmas.Grind.{common_steps}
-use Rattle.std.proofs.Common.{◌≡◌, ℕ, ◌≤◌, true, List, [], ◌∷◌, Some, refl, sym, subst, arith}
+use Rattle.std.proofs.Common.{◌≡◌, ℕ, true, List, [], ◌∷◌, Some, refl, sym, subst, arith}
 use Rattle.std.specs.Fmt.{digits}
 use Rattle.std.specs.Str.{is_utf8, chars}
 use lib.Utf8.{encode}
@@ -21,7 +21,7 @@ use Rattle.qtt_term.specs.Infer.{need, agree, sort_of, function_of, family_of, u
 use Rattle.qtt_term.specs.Programs.{item, program, listed, many, io_unit, put, shown, added, bound, then_do, with_handle, opened_a, written, closed_after, box, one_by_zero, no_of_false, hello, identity, loops, forever, partial_no, handles, trapping, echo, shows, boxed, deletes}
 use Rattle.qtt_run.specs.Programs.{IsRunnable, tree, tree_family, same_family, choice, least_by_minus_one, greatest_and_one, two_lines, two_lines_items, doubling, doubling_items, counting, counting_items, false_proof, false_proof_items, closing_later, closing_later_items, overlapping, overlapping_items, deleting_type, deleting_body}
 use Rattle.qtt_run.specs.Worked.{WorkedPrograms, FurtherRuns}
-use Rattle.qtt_run.proofs.Runnable.{EachFamily, all_accepted, runnable}
+use Rattle.qtt_run.proofs.Runnable.{all_accepted, runnable}
 
 -- ---- the families
 int-typed : (E : Env) (Γ : Ctx) → Typed E Part.erased Γ IntTy (Sort 0) zero_use
