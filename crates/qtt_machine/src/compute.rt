@@ -21,6 +21,7 @@ use qtt_prims::{Lit, PrimAnswer, Primitive, apply};
 use qtt_value::Val;
 
 /// Applies a primitive to the newest values.
+#[inline(always)]
 pub(crate) fn compute<'a>(
     frames: &mut Frames<'a>,
     arena: &'a Bump,
@@ -46,6 +47,7 @@ pub(crate) fn compute<'a>(
 }
 
 /// Applies a primitive on two numbers.
+#[inline(always)]
 fn with_numbers<'a>(
     frames: &mut Frames<'a>,
     arena: &'a Bump,
@@ -149,6 +151,7 @@ fn divides(frames: &Frames, prim: Primitive) -> bool
 }
 
 /// Puts an answer in the place of the last so many values, or traps.
+#[inline(always)]
 fn give<'a>(
     frames: &mut Frames<'a>,
     arena: &'a Bump,

@@ -15,6 +15,7 @@ use qtt_base::MemoryError;
 use qtt_code::Program;
 
 /// Goes on to behind the next tick, or to where the run ends or traps before one.
+#[inline(always)]
 fn to_tick<'a>(
     frames: &mut Frames<'a>,
     program: &'a Program,

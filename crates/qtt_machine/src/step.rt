@@ -23,6 +23,7 @@ use qtt_prims::ActKind;
 use qtt_value::{Val, place};
 
 /// Does the next instruction.
+#[inline(always)]
 pub(crate) fn step<'a>(
     frames: &mut Frames<'a>,
     program: &'a Program,
@@ -101,6 +102,7 @@ fn is_tick(instr: &Instr) -> bool
     }
 }
 
+#[inline(always)]
 fn local<'a>(frames: &mut Frames<'a>, place: u32) -> Result<Event<'a>, MemoryError>
     requires stacked { IsStacked frames.old }
     requires within { IsWithin (state frames.old) }
@@ -111,6 +113,7 @@ fn local<'a>(frames: &mut Frames<'a>, place: u32) -> Result<Event<'a>, MemoryErr
     Ok(Event::Went)
 }
 
+#[inline(always)]
 fn captured<'a>(frames: &mut Frames<'a>, place: u32) -> Result<Event<'a>, MemoryError>
     requires stacked { IsStacked frames.old }
     requires within { IsWithin (state frames.old) }
@@ -121,6 +124,7 @@ fn captured<'a>(frames: &mut Frames<'a>, place: u32) -> Result<Event<'a>, Memory
     Ok(Event::Went)
 }
 
+#[inline(always)]
 fn known<'a>(frames: &mut Frames<'a>, value: Val<'a>) -> Result<Event<'a>, MemoryError>
     requires stacked { IsStacked frames.old }
     requires within { IsWithin (state frames.old) }
@@ -131,6 +135,7 @@ fn known<'a>(frames: &mut Frames<'a>, value: Val<'a>) -> Result<Event<'a>, Memor
 }
 
 /// The last so many values, placed in the arena.
+#[inline(always)]
 fn parts<'a>(frames: &Frames<'a>, arena: &'a Bump, count: u32) -> Result<&'a [Val<'a>], MemoryError>
     requires stacked { IsStacked frames.now }
     requires pushed { count ≤ length (state frames.now).frame.pushed }
@@ -139,6 +144,7 @@ fn parts<'a>(frames: &Frames<'a>, arena: &'a Bump, count: u32) -> Result<&'a [Va
     place(arena, frames.top(count as usize))
 }
 
+#[inline(always)]
 fn closure<'a>(
     frames: &mut Frames<'a>,
     arena: &'a Bump,
@@ -155,6 +161,7 @@ fn closure<'a>(
     Ok(Event::Went)
 }
 
+#[inline(always)]
 fn con<'a>(
     frames: &mut Frames<'a>,
     arena: &'a Bump,
@@ -171,6 +178,7 @@ fn con<'a>(
     Ok(Event::Went)
 }
 
+#[inline(always)]
 fn act<'a>(
     frames: &mut Frames<'a>,
     arena: &'a Bump,
@@ -188,6 +196,7 @@ fn act<'a>(
 }
 
 /// Begins a block with these captured values and locals.
+#[inline(always)]
 fn enter<'a>(
     frames: &mut Frames<'a>,
     program: &'a Program,
@@ -207,6 +216,7 @@ fn enter<'a>(
     Ok(Event::Ticked)
 }
 
+#[inline(always)]
 fn call<'a>(
     frames: &mut Frames<'a>,
     program: &'a Program,
@@ -225,6 +235,7 @@ fn call<'a>(
     enter(frames, program, entry, block, captured, &[argument])
 }
 
+#[inline(always)]
 fn force<'a>(
     frames: &mut Frames<'a>,
     program: &'a Program,
@@ -242,6 +253,7 @@ fn force<'a>(
     enter(frames, program, entry, block, captured, &[])
 }
 
+#[inline(always)]
 fn switch<'a>(frames: &mut Frames<'a>, places: &[u32]) -> Result<Event<'a>, MemoryError>
     requires stacked { IsStacked frames.old }
     requires unstuck { ¬ (switches places.now (state frames.old).frame.pushed (state frames.old) ≡ Did.stuck) }
@@ -257,6 +269,7 @@ fn switch<'a>(frames: &mut Frames<'a>, places: &[u32]) -> Result<Event<'a>, Memo
     Ok(Event::Ticked)
 }
 
+#[inline(always)]
 fn give_back<'a>(frames: &mut Frames<'a>) -> Result<Event<'a>, MemoryError>
     requires stacked { IsStacked frames.old }
     requires unstuck { ¬ (returns (state frames.old).frame.pushed (state frames.old).waiting ≡ Did.stuck) }
