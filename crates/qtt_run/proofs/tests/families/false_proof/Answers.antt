@@ -1,15 +1,9 @@
 use Rattle.std.proofs.Common.{ℕ, List, [], ◌∷◌}
 use Rattle.qtt_term.specs.Globals.{env}
-use Rattle.qtt_term.specs.Signature.{Definition, Family}
-use Rattle.qtt_term.specs.View.{term}
-use Rattle.qtt_run.specs.Closed.{listed_item}
+use Rattle.qtt_term.specs.Signature.{Family}
 use Rattle.qtt_run.specs.Programs.{same_family}
-use Rattle.qtt_run.specs.declared.tests.building.Item.{Item}
 use Rattle.qtt_run.proofs.Building.{if_ok-then, three-listed}
 use Rattle.qtt_run.proofs.tests.families.false_proof.Goals as goal
-
-abbrev entry : Item → ℕ × Definition
-entry x = listed_item x.number (term x.ty) (term x.body)
 
 -- the families of the program
 abbrev own : List (ℕ × Family)
@@ -18,5 +12,5 @@ own = (0, same_family) ∷ []
 pub returns : goal.returns
 returns c =
     if_ok-then c.define_all.result c.define_all.ensures
-    (λ g h. three-listed own entry (env g) _ _ _ _ _ _ _ (h own c.in_ok-sames.ensures)
+    (λ g h. three-listed own _ (env g) _ _ _ _ _ _ _ (h own c.in_ok-sames.ensures)
     c.in_ok-vec.ensures.items c.in_ok-main.ensures c.in_ok-cast.ensures c.in_ok-bad.ensures)

@@ -1,17 +1,10 @@
-use Rattle.std.proofs.Common.{ℕ, []}
+use Rattle.std.proofs.Common.{[]}
 use Rattle.qtt_term.specs.Globals.{env}
-use Rattle.qtt_term.specs.Signature.{Definition}
-use Rattle.qtt_term.specs.View.{term}
-use Rattle.qtt_run.specs.Closed.{listed_item}
-use Rattle.qtt_run.specs.declared.tests.building.Item.{Item}
 use Rattle.qtt_run.proofs.Building.{if_ok-then, three-listed}
 use Rattle.qtt_run.proofs.tests.programs.loops.Goals as goal
-
-abbrev entry : Item → ℕ × Definition
-entry x = listed_item x.number (term x.ty) (term x.body)
 
 pub returns : goal.returns
 returns c =
     if_ok-then c.plain.result c.plain.ensures
-    (λ g h. three-listed [] entry (env g) _ _ _ _ _ _ _ h
+    (λ g h. three-listed [] _ (env g) _ _ _ _ _ _ _ h
     c.in_ok-vec.ensures.items c.in_ok-main.ensures c.in_ok-using.ensures c.in_ok-loopy.ensures)
