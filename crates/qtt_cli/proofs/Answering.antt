@@ -14,11 +14,14 @@ use Rattle.qtt_cli.specs.Endings.{EndsText, Faults, Ends, Reports}
 use Rattle.qtt_cli.proofs.Stages.{too_long_to_read}
 
 -- a line that was made is reported, else want of memory
-pub reports_line : {E : Type 0} (made : Result (Vec ℕ Global) E) (line : List ℕ) (status result : ℕ) (old new : Option (List ℕ)) (before now : ℕ) →
+pub reports_line : {E : Type 0} (made : Result (Vec ℕ Global) E) (line : List ℕ) (status result : ℕ)
+    (old new : Option (List ℕ)) (before now : ℕ) →
     IfOk made (λ text. text.items ≡ line) →
-    MatchResult made (λ text. Reports status text.items result old new before now) (λ _. (result ≡ 71) × AddsFront old new memory_line) →
+    MatchResult made (λ text. Reports status text.items result old new before now)
+    (λ _. (result ≡ 71) × AddsFront old new memory_line) →
     Reports status line result old new before now
-reports_line (Ok text) line status result old new before now is reports = subst (λ l. Reports status l result old new before now) is reports
+reports_line (Ok text) line status result old new before now is reports =
+    subst (λ l. Reports status l result old new before now) is reports
 reports_line (Err e) line status result old new before now is memory = inr (memory.0, inr memory.1)
 
 -- ---- the text that was read, and the whole text
@@ -45,8 +48,10 @@ pub record WholeText (words : List (String Global)) (texts : Texts) (name front 
   pub read : Read words texts name text
   pub same : reading name front ≡ reading name text
 
-read_whole : (words : List (String Global)) (f : List ℕ → Option (List ℕ)) (name front : List ℕ) → asked words ≡ Some name →
-    (held : Option (List ℕ)) → f name ≡ held → option_map (take 1048577) held ≡ Some front → WholeText words (Some f) name front
+read_whole : (words : List (String Global)) (f : List ℕ → Option (List ℕ)) (name front : List ℕ) →
+    asked words ≡ Some name →
+    (held : Option (List ℕ)) → f name ≡ held → option_map (take 1048577) held ≡ Some front →
+    WholeText words (Some f) name front
 read_whole words f name front asked_for None is reads = absurd (none reads)
   where
     none : None ≡ Some front → ⊥
@@ -58,7 +63,8 @@ read_whole words f name front asked_for (Some text) is reads =
       same = front_read name text front cc;
     }
 
-pub whole_text : (words : List (String Global)) (texts : Texts) (name : List ℕ) (front : Vec ℕ Global) → asked words ≡ Some name →
+pub whole_text : (words : List (String Global)) (texts : Texts) (name : List ℕ) (front : Vec ℕ Global) →
+    asked words ≡ Some name →
     Reads texts name 1048577 (Ok front) → WholeText words texts name front.items
 whole_text words None name front asked_for reads = record {
   text = front.items;
@@ -68,15 +74,21 @@ whole_text words None name front asked_for reads = record {
 whole_text words (Some f) name front asked_for reads = read_whole words f name front.items asked_for (f name) refl reads
 
 -- ---- the ending of a text is one of the words
-accepts : (words : List (String Global)) (texts : Texts) (name front : List ℕ) → WholeText words texts name front → (ts : List (List ℕ)) →
+accepts : (words : List (String Global)) (texts : Texts) (name front : List ℕ) →
+    WholeText words texts name front → (ts : List (List ℕ)) →
     reading name front ≡ Ok ts → Accepts words texts ts
 accepts words texts name front w ts s = record { name = name; text = w.text; read = w.read; program = sym w.same ∙ s }
 
-pub ends_as_text : (words : List (String Global)) (texts : Texts) (faults : Faults) (name front : List ℕ) (old new : Option (List ℕ)) (e : Ending) → WholeText words texts name front →
+pub ends_as_text : (words : List (String Global)) (texts : Texts) (faults : Faults) (name front : List ℕ)
+    (old new : Option (List ℕ)) (e : Ending) → WholeText words texts name front →
     EndsText name front faults.output old new e → Ends words texts faults old new e
-ends_as_text words texts faults name front old new ending.Ran w ends = (ends.0, accepts words texts name front w ends.0 ends.1, ends.2)
-ends_as_text words texts faults name front old new (ending.Refused refused fault) w ends =
-    (subst (λ n. HasFault words texts n (seen fault)) (sym ends.0) (record { text = w.text; read = w.read; fault = sym w.same ∙ ends.1 }), ends.2)
+ends_as_text words texts faults name front old new ending.Ran w ends =
+    (ends.0, accepts words texts name front w ends.0 ends.1, ends.2)
+ends_as_text words texts faults name front old new (ending.Refused refused fault) w ends = (
+  subst (λ n. HasFault words texts n (seen fault)) (sym ends.0)
+      (record { text = w.text; read = w.read; fault = sym w.same ∙ ends.1 }),
+  ends.2,
+)
 ends_as_text words texts faults name front old new ending.OutputFailed w ends =
     let puts = ends.1 in
     (ends.0, (puts.0, accepts words texts name front w puts.0 puts.1, puts.2))

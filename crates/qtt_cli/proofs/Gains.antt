@@ -11,7 +11,9 @@ adds_none (Some x) = ap Some (sym (append-nil x))
 pub adds_then : (a b c : Option (List ℕ)) (xs ys : List ℕ) → Adds a b xs → Adds b c ys → Adds a c (xs ++ ys)
 adds_then a b c xs ys p q = q ∙ ap (λ o. option_map (λ held. held ++ ys) o) p ∙ joined a
   where
-    joined : (o : Option (List ℕ)) → option_map (λ held. held ++ ys) (option_map (λ held. held ++ xs) o) ≡ option_map (λ held. held ++ (xs ++ ys)) o
+    joined : (o : Option (List ℕ)) →
+        option_map (λ held. held ++ ys) (option_map (λ held. held ++ xs) o) ≡ option_map
+        (λ held. held ++ (xs ++ ys)) o
     joined None = refl
     joined (Some x) = ap Some (append_assoc x xs ys)
 

@@ -35,7 +35,8 @@ no_text bytes none = by (cases_Bool (is_utf8 bytes))
     by (inr is) = is
 
 pub utf8_read : {E : Type 0} (Q : E → Type 0) (bytes : List ℕ) (r : Result (Bor (List ℕ)) E) →
-    MatchResult r (λ s. (s.now ≡ bytes) × IsUtf8 bytes) (λ e. (IsUtf8 bytes → ⊥) × Q e) → value_seen (result_ok r) ≡ utf8_text bytes
+    MatchResult r (λ s. (s.now ≡ bytes) × IsUtf8 bytes) (λ e. (IsUtf8 bytes → ⊥) × Q e) →
+    value_seen (result_ok r) ≡ utf8_text bytes
 utf8_read Q bytes (Ok s) read = rw (is_utf8-from_IsUtf8 bytes read.1) (ap Some read.0)
 utf8_read Q bytes (Err e) read = rw (no_text bytes read.0) refl
 
@@ -60,7 +61,8 @@ both_count n (Some t) (Some us) ts deeper e =
     sym (ap length same) ∙ ap suc (deeper us refl)
 
 -- as many lines as statements
-pub count_of_lines : (ss : List Statement) (ts : List (List ℕ)) → put_by_all (statements ss) ≡ Some ts → length ts ≡ length ss
+pub count_of_lines : (ss : List Statement) (ts : List (List ℕ)) → put_by_all (statements ss) ≡ Some ts →
+    length ts ≡ length ss
 count_of_lines [] ts e =
     let same : [] ≡ ts = cc in
     sym (ap length same)
@@ -71,14 +73,17 @@ out_of_bounds ts (inl none) = grind (arith, nat_tests)
 out_of_bounds ts (inr many) = grind (arith, nat_tests)
 
 -- no statement, or more than there may be
-pub too_few_or_many : (ss : List Statement) → (length ss ≡ 0) ⊎ (500 < length ss) → None ≡ few (put_by_all (statements ss))
+pub too_few_or_many : (ss : List Statement) → (length ss ≡ 0) ⊎ (500 < length ss) →
+    None ≡ few (put_by_all (statements ss))
 too_few_or_many ss bounds = by (put_by_all (statements ss)) (count_of_lines ss)
   where
     by : (o : Option (List (List ℕ))) → ((ts : List (List ℕ)) → o ≡ Some ts → length ts ≡ length ss) → None ≡ few o
     by None count = refl
-    by (Some ts) count = out_of_bounds ts (elim bounds [ inl none ↦ inl (count ts refl ∙ none) | inr many ↦ inr (rw (count ts refl) many) ])
+    by (Some ts) count = out_of_bounds ts
+        (elim bounds [ inl none ↦ inl (count ts refl ∙ none) | inr many ↦ inr (rw (count ts refl) many) ])
 
 pub bounds : (xs : List code.Statement) (empty : Bool) → empty ≡ (length xs == 0) →
-    (empty ≡ true) ⊎ ((empty ≡ false) × (500 < length xs)) → (length (map statement_of xs) ≡ 0) ⊎ (500 < length (map statement_of xs))
+    (empty ≡ true) ⊎ ((empty ≡ false) × (500 < length xs)) →
+    (length (map statement_of xs) ≡ 0) ⊎ (500 < length (map statement_of xs))
 bounds xs empty is (inl none) = inl (length-map xs statement_of ∙ grind (arith, nat_tests))
 bounds xs empty is (inr many) = inr (rw length-map many.1)

@@ -41,27 +41,32 @@ unfolding reading
 too_long_to_read name text long = err_then (tree_of_text text) too_long _ (too_long_text text long)
 
 -- ---- what a stage answers is what the stages from it on give
-pub says_so : {A B : Type 0} (view : A → B) (e : ReadError) (m : Mistake) (answer : Reading B) → Says e m → answer ≡ Err m →
+pub says_so : {A B : Type 0} (view : A → B) (e : ReadError) (m : Mistake) (answer : Reading B) → Says e m →
+    answer ≡ Err m →
     Gives view (Err e) answer
 says_so view error.Memory m answer says is = tt
 says_so view (error.Fault fault) m answer says is = is ∙ ap Err (sym says)
 
-pub by_fault : {A B C D : Type 0} (view : A → B) (other : C → D) (e : ReadError) (outcome : Reading B) (k : B → Reading D) →
+pub by_fault : {A B C D : Type 0} (view : A → B) (other : C → D) (e : ReadError) (outcome : Reading B)
+    (k : B → Reading D) →
     Gives view (Err e) outcome → Gives other (Err e) (outcome >>= k)
 by_fault view other error.Memory outcome k gives = tt
 by_fault view other (error.Fault fault) outcome k gives = err_then outcome (seen fault) k gives
 
-pub by_lexer : {C D : Type 0} (other : C → D) (e : LexError) (outcome : Reading (List Token)) (k : List Token → Reading D) →
+pub by_lexer : {C D : Type 0} (other : C → D) (e : LexError) (outcome : Reading (List Token))
+    (k : List Token → Reading D) →
     lexer.Refuses e outcome → Gives other (Err (of_lexer e)) (outcome >>= k)
 by_lexer other lex_error.Memory outcome k gives = tt
 by_lexer other (lex_error.Fault fault) outcome k gives = err_then outcome (seen fault) k gives
 
-pub by_layout : {C D : Type 0} (other : C → D) (e : LayoutError) (outcome : Reading (List Laid)) (k : List Laid → Reading D) →
+pub by_layout : {C D : Type 0} (other : C → D) (e : LayoutError) (outcome : Reading (List Laid))
+    (k : List Laid → Reading D) →
     layout.Refuses e outcome → Gives other (Err (of_layout e)) (outcome >>= k)
 by_layout other layout_error.Memory outcome k gives = tt
 by_layout other (layout_error.Fault fault) outcome k gives = err_then outcome (seen fault) k gives
 
-pub by_grammar : {C : Type 0} (other : C → Module) (e : GrammarError) (outcome : Reading Module) → grammar.Refuses e outcome →
+pub by_grammar : {C : Type 0} (other : C → Module) (e : GrammarError) (outcome : Reading Module) →
+    grammar.Refuses e outcome →
     Gives other (Err (of_grammar e)) outcome
 by_grammar other grammar_error.Memory outcome gives = tt
 by_grammar other (grammar_error.Fault fault) outcome gives = gives
@@ -72,15 +77,19 @@ fits_so text short = grind (arith, nat_tests)
 pub at_tokens : (text : List ℕ) → length text ≤ 1048576 →
     tree_of_text text ≡ (lexed text >>= λ tokens. laid tokens >>= λ marks. parsed marks)
 unfolding tree_of_text
-at_tokens text short = ok_then (fits text) tt (λ u. lexed text >>= λ tokens. laid tokens >>= λ marks. parsed marks) (fits_so text short)
+at_tokens text short = ok_then (fits text) tt
+    (λ u. lexed text >>= λ tokens. laid tokens >>= λ marks. parsed marks) (fits_so text short)
 
 pub at_marks : (text : List ℕ) (tokens : List Token) → length text ≤ 1048576 → lexed text ≡ Ok tokens →
     tree_of_text text ≡ (laid tokens >>= λ marks. parsed marks)
-at_marks text tokens short is = at_tokens text short ∙ ok_then (lexed text) tokens (λ tokens. laid tokens >>= λ marks. parsed marks) is
+at_marks text tokens short is =
+    at_tokens text short ∙ ok_then (lexed text) tokens (λ tokens. laid tokens >>= λ marks. parsed marks) is
 
-pub at_tree : (text : List ℕ) (tokens : List Token) (marks : List Laid) → length text ≤ 1048576 → lexed text ≡ Ok tokens →
+pub at_tree : (text : List ℕ) (tokens : List Token) (marks : List Laid) → length text ≤ 1048576 →
+    lexed text ≡ Ok tokens →
     laid tokens ≡ Ok marks → tree_of_text text ≡ parsed marks
-at_tree text tokens marks short is are = at_marks text tokens short is ∙ ok_then (laid tokens) marks (λ marks. parsed marks) are
+at_tree text tokens marks short is are =
+    at_marks text tokens short is ∙ ok_then (laid tokens) marks (λ marks. parsed marks) are
 
 -- ---- the stages behind the tree
 abbrev behind_alone : Module → Reading (List (List ℕ))
@@ -89,7 +98,8 @@ behind_alone m = with_names m >>= λ found. built (lines_of found)
 abbrev behind_name : Module → Reading (List (List ℕ))
 behind_name m = stands_alone m >>= λ v. behind_alone m
 
-pub at_name : (name text : List ℕ) (m : Module) → tree_of_text text ≡ Ok m → reading name text ≡ (has_name name m >>= λ u. behind_name m)
+pub at_name : (name text : List ℕ) (m : Module) → tree_of_text text ≡ Ok m →
+    reading name text ≡ (has_name name m >>= λ u. behind_name m)
 unfolding reading
 at_name name text m is = ok_then (tree_of_text text) m (λ m. has_name name m >>= λ u. behind_name m) is
 
@@ -97,16 +107,21 @@ pub at_alone : (name text : List ℕ) (m : Module) → tree_of_text text ≡ Ok 
     reading name text ≡ (stands_alone m >>= λ v. behind_alone m)
 at_alone name text m is named = at_name name text m is ∙ ok_then (has_name name m) tt (λ u. behind_name m) named
 
-pub at_names : (name text : List ℕ) (m : Module) → tree_of_text text ≡ Ok m → has_name name m ≡ Ok tt → stands_alone m ≡ Ok tt →
+pub at_names : (name text : List ℕ) (m : Module) → tree_of_text text ≡ Ok m → has_name name m ≡ Ok tt →
+    stands_alone m ≡ Ok tt →
     reading name text ≡ (with_names m >>= λ found. built (lines_of found))
-at_names name text m is named alone = at_alone name text m is named ∙ ok_then (stands_alone m) tt (λ v. behind_alone m) alone
+at_names name text m is named alone =
+    at_alone name text m is named ∙ ok_then (stands_alone m) tt (λ v. behind_alone m) alone
 
-pub at_lines : (name text : List ℕ) (m found : Module) → tree_of_text text ≡ Ok m → has_name name m ≡ Ok tt → stands_alone m ≡ Ok tt →
+pub at_lines : (name text : List ℕ) (m found : Module) → tree_of_text text ≡ Ok m → has_name name m ≡ Ok tt →
+    stands_alone m ≡ Ok tt →
     with_names m ≡ Ok found → reading name text ≡ built (lines_of found)
 at_lines name text m found is named alone are =
     at_names name text m is named alone ∙ ok_then (with_names m) found (λ found. built (lines_of found)) are
 
-pub by_tree : {C : Type 0} (view : C → Module) (other : Vec (List ℕ) Global → List (List ℕ)) (e : ReadError) (name text : List ℕ) →
+pub by_tree : {C : Type 0} (view : C → Module) (other : Vec (List ℕ) Global → List (List ℕ)) (e : ReadError)
+    (name text : List ℕ) →
     Gives view (Err e) (tree_of_text text) → Gives other (Err e) (reading name text)
 unfolding reading
-by_tree view other e name text gives = by_fault view other e (tree_of_text text) (λ m. has_name name m >>= λ u. behind_name m) gives
+by_tree view other e name text gives =
+    by_fault view other e (tree_of_text text) (λ m. has_name name m >>= λ u. behind_name m) gives

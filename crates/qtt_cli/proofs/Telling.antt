@@ -8,14 +8,17 @@ use Rattle.std.proofs.lemmas.Str.{chars_past_char, is_utf8-from_IsUtf8}
 use Rattle.qtt_cli.specs.Messages.{character, hexadecimal}
 use Rattle.qtt_cli.proofs.Hellos.{no_text}
 
-zeros_in_front : (ds : List ℕ) → padded_integral (format_spec 32 0 4 4 (2 ^ 64 - 1)) false [] ds ≡ replicate (4 - length ds) 48 ++ ds
+zeros_in_front : (ds : List ℕ) →
+    padded_integral (format_spec 32 0 4 4 (2 ^ 64 - 1)) false [] ds ≡ replicate (4 - length ds) 48 ++ ds
 unfolding padded_integral char_count
 zeros_in_front ds =
     let short : 4 - length ds - 0 - 0 ≡ 4 - length ds = omega arith in
-    ap (λ (k : ℕ). replicate k 48 ++ (ds ++ [])) short ∙ ap (λ (xs : List ℕ). replicate (4 - length ds) 48 ++ xs) (append-nil ds)
+    ap (λ (k : ℕ). replicate k 48 ++ (ds ++ [])) short ∙ ap (λ (xs : List ℕ). replicate (4 - length ds) 48 ++ xs)
+    (append-nil ds)
 
 -- what `{:04X}` writes
-pub four_digits : (n : ℕ) → padded_integral (format_spec 32 0 4 4 (2 ^ 64 - 1)) false [] (digits 16 true n) ≡ hexadecimal n
+pub four_digits : (n : ℕ) →
+    padded_integral (format_spec 32 0 4 4 (2 ^ 64 - 1)) false [] (digits 16 true n) ≡ hexadecimal n
 four_digits n = zeros_in_front (digits 16 true n)
 
 pub character_in_front : (bs rest : List ℕ) (c : ℕ) → IsUtf8 bs → bs ≡ encode_utf8 c ++ rest → character bs ≡ c

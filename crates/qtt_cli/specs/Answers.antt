@@ -36,7 +36,8 @@ memory_line = line (codes "out of memory")
 abbrev pub Tells : Option (List ℕ) → Option (List ℕ) → ℕ → ℕ → List ℕ → Type 0
 Tells old new before now text = Adds old new text ⊎ (Rose before now × AddsFront old new text)
 
--- ---- the text of the module that the words ask for. Where the vault tells its texts, it is the vault's text of that name
+-- ---- the text of the module that the words ask for. Where the vault tells its texts, it is the vault's text of
+-- that name
 pub record Read (words : List (String Global)) (texts : Texts) (name text : List ℕ) : Type 0 where
   pub asked_for : asked words ≡ Some name
   pub held : IfSome texts (λ f. f name ≡ Some text)
@@ -76,7 +77,8 @@ pub record Misses (words : List (String Global)) (texts : Texts) (tells : List �
 
 -- out gained a front of what the program puts: of nothing, or of the lines of the text that was read
 abbrev pub PutsFront : List (String Global) → Texts → Option (List ℕ) → Option (List ℕ) → Type 0
-PutsFront words texts old new = Adds old new [] ⊎ ((ts : List (List ℕ)) × Accepts words texts ts × AddsFront old new (output ts))
+PutsFront words texts old new =
+    Adds old new [] ⊎ ((ts : List (List ℕ)) × Accepts words texts ts × AddsFront old new (output ts))
 
 -- the lines that may be due on err
 pub data Due (words : List (String Global)) (texts : Texts) : List ℕ → Type 0 where

@@ -36,23 +36,29 @@ pub record Faults : Type 1 where
 abbrev pub Ends : List (String Global) → Texts → Faults → Option (List ℕ) → Option (List ℕ) → Ending → Type 0
 Ends words texts faults old new ending.Ran = (ts : List (List ℕ)) × Accepts words texts ts × Adds old new (output ts)
 Ends words texts faults old new ending.Usage = (asked words ≡ None) × Adds old new []
-Ends words texts faults old new (ending.Absent name) = faults.miss × (asked words ≡ Some name.now) × IfSome texts (λ f. f name.now ≡ None) × Adds old new []
-Ends words texts faults old new (ending.Refused name found) = HasFault words texts name.now (seen found) × Adds old new []
-Ends words texts faults old new ending.VaultFailed = faults.vault × ((name : List ℕ) × (asked words ≡ Some name)) × Adds old new []
-Ends words texts faults old new ending.OutputFailed = faults.output × ((ts : List (List ℕ)) × Accepts words texts ts × AddsFront old new (output ts))
+Ends words texts faults old new (ending.Absent name) =
+    faults.miss × (asked words ≡ Some name.now) × IfSome texts (λ f. f name.now ≡ None) × Adds old new []
+Ends words texts faults old new (ending.Refused name found) =
+    HasFault words texts name.now (seen found) × Adds old new []
+Ends words texts faults old new ending.VaultFailed =
+    faults.vault × ((name : List ℕ) × (asked words ≡ Some name)) × Adds old new []
+Ends words texts faults old new ending.OutputFailed =
+    faults.output × ((ts : List (List ℕ)) × Accepts words texts ts × AddsFront old new (output ts))
 Ends words texts faults old new ending.Memory = PutsFront words texts old new
 
 -- a status with its line, or want of memory, with a front of the line or of the line of that
 abbrev pub Reports : ℕ → List ℕ → ℕ → Option (List ℕ) → Option (List ℕ) → ℕ → ℕ → Type 0
 Reports status line result old new before now =
-    ((result ≡ status) × Tells old new before now line) ⊎ ((result ≡ 71) × (AddsFront old new line ⊎ AddsFront old new memory_line))
+    ((result ≡ status) × Tells old new before now line) ⊎
+    ((result ≡ 71) × (AddsFront old new line ⊎ AddsFront old new memory_line))
 
 -- what is told of an ending
 abbrev pub Finishes : Ending → ℕ → Option (List ℕ) → Option (List ℕ) → ℕ → ℕ → Type 0
 Finishes ending.Ran result old new before now = (result ≡ 0) × Adds old new []
 Finishes ending.Usage result old new before now = Reports 64 usage_line result old new before now
 Finishes (ending.Absent name) result old new before now = Reports 66 (absent_line name.now) result old new before now
-Finishes (ending.Refused name found) result old new before now = Reports 1 (refusal_line name.now (seen found)) result old new before now
+Finishes (ending.Refused name found) result old new before now =
+    Reports 1 (refusal_line name.now (seen found)) result old new before now
 Finishes ending.VaultFailed result old new before now = Reports 74 vault_line result old new before now
 Finishes ending.OutputFailed result old new before now = Reports 74 output_line result old new before now
 Finishes ending.Memory result old new before now = (result ≡ 71) × AddsFront old new memory_line

@@ -94,7 +94,8 @@ puts e = run (call (codes "putLine") e) (at 1)
 abbrev quoted : List ℕ → Tree
 quoted bytes = text bytes (at 1)
 
-pub two_lines_read : lines_of (hello (puts (quoted (codes "a")) ∷ puts (quoted (codes "b")) ∷ [])) ≡ Some (codes "a" ∷ codes "b" ∷ [])
+pub two_lines_read : lines_of (hello (puts (quoted (codes "a")) ∷ puts (quoted (codes "b")) ∷ [])) ≡ Some
+    (codes "a" ∷ codes "b" ∷ [])
 unfolding chars is_utf8 encode
 two_lines_read = refl
 
@@ -105,13 +106,16 @@ a_name_put = refl
 pub nothing_put : lines_of (hello []) ≡ None
 nothing_put = refl
 
-pub another_module : has_name (codes "Main") (module_text (at 1) (codes "Other") (at 8) [] []) ≡ Err (wrong_name (codes "Other") (at 8))
+pub another_module : has_name (codes "Main") (module_text (at 1) (codes "Other") (at 8) [] []) ≡ Err
+    (wrong_name (codes "Other") (at 8))
 another_module = refl
 
-pub prim_is_no_program : has_name (codes "Prim") (module_text (at 1) (codes "Prim") (at 8) [] []) ≡ Err (wrong_name (codes "Prim") (at 8))
+pub prim_is_no_program : has_name (codes "Prim") (module_text (at 1) (codes "Prim") (at 8) [] []) ≡ Err
+    (wrong_name (codes "Prim") (at 8))
 prim_is_no_program = refl
 
-pub an_import : stands_alone (module_text (at 1) (codes "Main") (at 8) (record { name = codes "Lists"; span = at 9 } ∷ []) [])
+pub an_import : stands_alone
+    (module_text (at 1) (codes "Main") (at 8) (record { name = codes "Lists"; span = at 9 } ∷ []) [])
     ≡ Err (not_yet (at 9))
 an_import = refl
 
@@ -120,7 +124,8 @@ an_import = refl
 -- the text without a byte ends too soon, at 1:1
 pub empty_text : reading (codes "Main") []
     ≡ Err (record { kind = 8; span = record { line = 1; col = 1; len = 0 }; word = codes "end"; count = 0 })
-unfolding reading tree_of_text lexed tokens_from utf8_valid_len chars laid put_from text_at module_at text_chain_at module_chain_at
+unfolding reading tree_of_text lexed tokens_from utf8_valid_len chars laid put_from text_at module_at
+    text_chain_at module_chain_at
 empty_text = refl
 
 -- ---- runs

@@ -12,4 +12,5 @@ pub record PutsAll (ts : List (List ℕ)) (run : Run) : Type 0 where
 -- each smallest program ends so, over each input, where that many contractions may be made
 abbrev pub SmallestProgramsEnd : Type 0
 SmallestProgramsEnd =
-    (ts : List (List ℕ)) (bound : ℕ) (input : List ℕ) → 1 ≤ length ts → 4 * length ts - 2 ≤ bound → PutsAll ts (full bound (environment ts) main input)
+    (ts : List (List ℕ)) (bound : ℕ) (input : List ℕ) → 1 ≤ length ts → 4 * length ts - 2 ≤ bound →
+    PutsAll ts (full bound (environment ts) main input)

@@ -10,9 +10,12 @@ use Rattle.qtt_cli.specs.Reading.{front, too_long, wrong_name, not_yet}
 -- the kinds that are told so far, by their names
 abbrev pub kind_names : List (ℕ × List ℕ)
 kind_names =
-    (0, codes "NotYet") ∷ (1, codes "NotUtf8") ∷ (2, codes "BadCharacter") ∷ (3, codes "OpenText") ∷ (4, codes "OpenComment")
-    ∷ (5, codes "NumberTooWide") ∷ (6, codes "NameTooLong") ∷ (7, codes "BadIndent") ∷ (8, codes "Unexpected") ∷ (9, codes "TooDeep")
-    ∷ (10, codes "Unbound") ∷ (11, codes "Ambiguous") ∷ (12, codes "Duplicate") ∷ (31, codes "Limit") ∷ (32, codes "WrongModuleName")
+    (0, codes "NotYet") ∷ (1, codes "NotUtf8") ∷ (2, codes "BadCharacter") ∷ (3, codes "OpenText") ∷
+    (4, codes "OpenComment")
+    ∷ (5, codes "NumberTooWide") ∷ (6, codes "NameTooLong") ∷ (7, codes "BadIndent") ∷ (8, codes "Unexpected") ∷
+    (9, codes "TooDeep")
+    ∷ (10, codes "Unbound") ∷ (11, codes "Ambiguous") ∷ (12, codes "Duplicate") ∷ (31, codes "Limit") ∷
+    (32, codes "WrongModuleName")
     ∷ []
 
 abbrev pub named_in : List (ℕ × List ℕ) → ℕ → List ℕ
@@ -101,6 +104,7 @@ pub bad_sign : message (codes "Main") (fault 2 (codes "#") (at 2 1)) ≡ codes "
 unfolding message digits character chars is_utf8 encode
 bad_sign = refl
 
-pub bad_picture : message (codes "Main") (fault 2 (encode_utf8 0x1F600) (at 2 1)) ≡ codes "Main:2:1: 2 BadCharacter U+1F600"
+pub bad_picture : message (codes "Main") (fault 2 (encode_utf8 0x1F600) (at 2 1)) ≡ codes
+    "Main:2:1: 2 BadCharacter U+1F600"
 unfolding message digits character chars is_utf8 encode
 bad_picture = refl

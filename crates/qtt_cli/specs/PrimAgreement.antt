@@ -1,4 +1,5 @@
--- The module Prim as texts see it and as the core judges it: the same items, of the same numbers, names and types.
+-- The module Prim as texts see it and as the core judges it: the same items, of the same numbers, names and
+-- types.
 use Rattle.std.specs.Prelude.{◌≡◌, ℕ, List, [], ◌∷◌, ◌++◌, map, zip, find, length, Option, Some, None, codes}
 use Rattle.std.specs.List.{flat_map}
 use Rattle.qtt_base.specs.declared.place.GlobalId.{GlobalId}
@@ -14,7 +15,7 @@ use Rattle.qtt_syntax.specs.Tree.Tree.{name, universe, apply, pi}
 use Rattle.qtt_syntax.specs.Tree.Argument.{argument}
 use Rattle.qtt_syntax.specs.Tree.Arguments.{no_argument, argument_and}
 use Rattle.qtt_term.specs.Term.{Io, PrimTy, Named, Term, Terms, var, ε, ◌▸◌, Sort, Pi, Fam, TypeOf, same_id}
-use Rattle.qtt_term.specs.Signature.{Tele, ConSig, prim_id, signature, fam_sig, index_binders}
+use Rattle.qtt_term.specs.Signature.{Tele, ConSig, prim_id, type_arguments, signature, fam_sig, index_binders}
 use Rattle.qtt_term.specs.Items.{ConstructorEntry, FamilyEntry}
 use Rattle.qtt_term.specs.PrimItems.{unit_entry, bool_entry, line_entry, eq_entry, prim_families}
 use Rattle.qtt_term.specs.PrimEnvironment.{prim_env}
@@ -22,7 +23,8 @@ use Rattle.qtt_term.specs.View.{action}
 use Rattle.qtt_names.specs.Exports.{Sig}
 use Rattle.qtt_names.specs.PrimSigs.{prim_exports}
 
--- an item of Prim: how many of its arguments no text writes, and its type as a chain of binders with these in front
+-- an item of Prim: how many of its arguments no text writes, and its type as a chain of binders with these in
+-- front
 pub record PrimItem : Type 0 where
   pub id : GlobalId
   pub name : List ℕ
@@ -36,7 +38,8 @@ qualified n = codes "Prim." ++ n
 
 -- Int, String, Handle, IO and IO1 are forms of terms
 abbrev pub type_forms : List (ℕ × PrimTy)
-type_forms = (0, PrimTy.int) ∷ (1, PrimTy.string) ∷ (2, PrimTy.handle) ∷ (6, PrimTy.io_of Io.io) ∷ (7, PrimTy.io_of Io.io1) ∷ []
+type_forms = (0, PrimTy.int) ∷ (1, PrimTy.string) ∷ (2, PrimTy.handle) ∷ (6, PrimTy.io_of Io.io) ∷
+    (7, PrimTy.io_of Io.io1) ∷ []
 
 -- the other types are families
 abbrev pub form_or_family : GlobalId → Option (ℕ × PrimTy) → Terms → Term
@@ -126,24 +129,26 @@ unwritten_of act.Pure1 = 1
 unwritten_of _ = 0
 
 abbrev pub action_item : ℕ → ActKind → PrimItem
-action_item n k = form_item n (action_name k) (unwritten_of k) (Named.act (action k))
+action_item n k = form_item n (action_name k) (unwritten_of k) (Named.act (action k) (type_arguments (action k)))
 
 -- in the order of their numbers; binds have no number
 abbrev pub core_items : List PrimItem
 core_items =
-    type_item 0 (codes "Int") PrimTy.int ∷ type_item 1 (codes "String") PrimTy.string ∷ type_item 2 (codes "Handle") PrimTy.handle
+    type_item 0 (codes "Int") PrimTy.int ∷ type_item 1 (codes "String") PrimTy.string ∷
+    type_item 2 (codes "Handle") PrimTy.handle
     ∷ family_item unit_entry ∷ family_item bool_entry ∷ family_item line_entry
     ∷ type_item 6 (codes "IO") (PrimTy.io_of Io.io) ∷ type_item 7 (codes "IO1") (PrimTy.io_of Io.io1)
     ∷ constructor_items unit_entry ++ constructor_items bool_entry ++ constructor_items line_entry
     ++ family_item eq_entry ∷ constructor_items eq_entry
     ++ primitive_item 15 prim.AddInt ∷ primitive_item 16 prim.SubInt ∷ primitive_item 17 prim.MulInt
-    ∷ primitive_item 18 prim.DivInt ∷ primitive_item 19 prim.ModInt ∷ primitive_item 20 prim.EqInt ∷ primitive_item 21 prim.LtInt
+    ∷ primitive_item 18 prim.DivInt ∷ primitive_item 19 prim.ModInt ∷ primitive_item 20 prim.EqInt ∷
+    primitive_item 21 prim.LtInt
     ∷ primitive_item 22 prim.AppendString ∷ primitive_item 23 prim.EqString ∷ primitive_item 24 prim.ShowInt
     ∷ action_item 25 act.Pure ∷ action_item 26 act.Pure1 ∷ action_item 27 act.PutLine ∷ action_item 28 act.GetLine
     ∷ action_item 29 act.Open ∷ action_item 30 act.Write ∷ action_item 31 act.Close ∷ []
 
--- Each item has a signature; number by number the items are those of the core; and each family and constructor of the core's
--- environment is one of them.
+-- Each item has a signature; number by number the items are those of the core; and each family and constructor of
+-- the core's environment is one of them.
 pub record PrimAgrees : Type 0 where
   pub counts : length prim_exports.items ≡ length prim_exports.sigs
   pub items : items_seen ≡ core_items

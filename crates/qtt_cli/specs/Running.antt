@@ -53,14 +53,16 @@ pub record Goes (ts : List (List ℕ)) (old new : Runner) (told now : Option (Li
   pub rest : List (List ℕ)
   pub parts : ts ≡ puts ++ rest
   pub stands : Stands rest new.current new.waiting.items
-  pub nearer : contractions_left rest new.current new.waiting.items + 1 ≡ contractions_left ts old.current old.waiting.items
+  pub nearer : contractions_left rest new.current new.waiting.items + 1 ≡ contractions_left ts old.current
+      old.waiting.items
   pub adds : Adds told now (bytes_of puts)
 
 abbrev pub Turns : Progress → List (List ℕ) → Runner → Runner → Option (List ℕ) → Option (List ℕ) → Type 0
 Turns progress.Goes ts old new told now = Goes ts old new told now
 Turns progress.Ended ts old new told now = (ts ≡ []) × Adds told now []
 
--- some first lines were put, in this many contractions, and the runner stands where the others are still to be put
+-- some first lines were put, in this many contractions, and the runner stands where the others are still to be
+-- put
 pub record Runs (ts : List (List ℕ)) (runner : Runner) (made : ℕ) (told now : Option (List ℕ)) : Type 0 where
   pub puts : List (List ℕ)
   pub rest : List (List ℕ)

@@ -28,7 +28,8 @@ pub enum Ending<'a> {
 
 /// Tells of an ending on `err`, and gives its status.
 pub fn finish<E: Sink>(alloc: Global, err: &mut E, ending: Ending<'_>) -> u8
-    ensures { Finishes ending.entry result (E.content err.old) (E.content err.new) (E.faults err.old) (E.faults err.new) }
+    ensures { Finishes ending.entry result (E.content err.old) (E.content err.new)
+        (E.faults err.old) (E.faults err.new) }
 {
     match ending {
         Ending::Ran => 0,
@@ -55,7 +56,8 @@ fn absent_line(alloc: Global, name: &str) -> Result<Vec<u8>, AllocError>
 /// Puts a line, if there was memory for it, and gives the status, or that of want of memory.
 fn tell_made<E: Sink>(err: &mut E, status: u8, line: Result<Vec<u8>, AllocError>) -> u8
     ensures { MatchResult line
-        (λ text. Reports status text.items result (E.content err.old) (E.content err.new) (E.faults err.old) (E.faults err.new))
+        (λ text. Reports status text.items result (E.content err.old) (E.content err.new)
+        (E.faults err.old) (E.faults err.new))
         (λ _. (result ≡ 71) × AddsFront (E.content err.old) (E.content err.new) memory_line) }
 {
     match line {
@@ -66,7 +68,9 @@ fn tell_made<E: Sink>(err: &mut E, status: u8, line: Result<Vec<u8>, AllocError>
 
 /// Puts a line, and gives the status, or that of want of memory.
 fn tell<E: Sink>(err: &mut E, status: u8, line: &[u8]) -> u8
-    ensures { ((result ≡ status) × Tells (E.content err.old) (E.content err.new) (E.faults err.old) (E.faults err.new) line.now) ⊎ ((result ≡ 71) × AddsFront (E.content err.old) (E.content err.new) line.now) }
+    ensures { ((result ≡ status) × Tells (E.content err.old) (E.content err.new)
+        (E.faults err.old) (E.faults err.new) line.now) ⊎
+        ((result ≡ 71) × AddsFront (E.content err.old) (E.content err.new) line.now) }
 {
     match err.put(line) {
         Ok(()) | Err(SinkError::Failed) => status,

@@ -18,7 +18,8 @@ const MAX_STATEMENTS: usize = 500;
 
 /// The lines that the program of this module puts, if it is a smallest program.
 pub fn lines_of(alloc: Global, module: &ModuleText) -> Result<Option<Vec<Text>>, MemoryError>
-    ensures lines { IfOk result (λ found. lines_found found ≡ meaning.lines_of (module_of «module».now)) }
+    ensures lines { IfOk result
+        (λ found. lines_found found ≡ meaning.lines_of (module_of «module».now)) }
     ensures count { IfOk result (λ found. IfSome found (λ lines. IsFew lines.items)) }
 {
     let [first, second] = module.items.as_slice() else {
@@ -53,7 +54,8 @@ fn is_main(name: &Name) -> bool
 
 /// The lines of `main = do` and statements that each put one.
 fn main_lines(alloc: Global, item: &Item) -> Result<Option<Vec<Text>>, MemoryError>
-    ensures lines { IfOk result (λ found. lines_found found ≡ meaning.main_lines (item_of item.now)) }
+    ensures lines { IfOk result
+        (λ found. lines_found found ≡ meaning.main_lines (item_of item.now)) }
     ensures count { IfOk result (λ found. IfSome found (λ lines. IsFew lines.items)) }
 {
     match item {
@@ -63,7 +65,8 @@ fn main_lines(alloc: Global, item: &Item) -> Result<Option<Vec<Text>>, MemoryErr
 }
 
 fn clause_lines(alloc: Global, clause: &Clause) -> Result<Option<Vec<Text>>, MemoryError>
-    ensures lines { IfOk result (λ found. lines_found found ≡ meaning.main_lines (item_of (Item.Clause clause.now))) }
+    ensures lines { IfOk result
+        (λ found. lines_found found ≡ meaning.main_lines (item_of (Item.Clause clause.now))) }
     ensures count { IfOk result (λ found. IfSome found (λ lines. IsFew lines.items)) }
 {
     if !is_main(&clause.name) {
@@ -77,7 +80,8 @@ fn clause_lines(alloc: Global, clause: &Clause) -> Result<Option<Vec<Text>>, Mem
 
 /// The lines of a `do` of statements that each put one.
 fn lines_put(alloc: Global, side: &Expr) -> Result<Option<Vec<Text>>, MemoryError>
-    ensures lines { IfOk result (λ found. lines_found found ≡ meaning.lines_put (tree_of side.now)) }
+    ensures lines { IfOk result
+        (λ found. lines_found found ≡ meaning.lines_put (tree_of side.now)) }
     ensures count { IfOk result (λ found. IfSome found (λ lines. IsFew lines.items)) }
 {
     match side {
@@ -88,7 +92,9 @@ fn lines_put(alloc: Global, side: &Expr) -> Result<Option<Vec<Text>>, MemoryErro
 
 /// The lines of 1 to 500 statements that each put one.
 fn put_by_all(alloc: Global, block: &[Statement]) -> Result<Option<Vec<Text>>, MemoryError>
-    ensures lines { IfOk result (λ found. lines_found found ≡ meaning.few (meaning.put_by_all (statements (map statement_of block.now)))) }
+    ensures lines { IfOk result
+        (λ found. lines_found found ≡ meaning.few
+        (meaning.put_by_all (statements (map statement_of block.now)))) }
     ensures count { IfOk result (λ found. IfSome found (λ lines. IsFew lines.items)) }
 {
     if block.is_empty() || block.len() > MAX_STATEMENTS {

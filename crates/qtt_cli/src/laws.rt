@@ -8,8 +8,8 @@ pub fn smallest_programs_end()
     ensures { SmallestProgramsEnd }
 {}
 
-/// What texts see of the module Prim is what the core judges by: number by number the same names and types, and each family and
-/// constructor of the core's environment is among them.
+/// What texts see of the module Prim is what the core judges by: number by number the same names
+/// and types, and each family and constructor of the core's environment is among them.
 pub fn prim_agrees()
     ensures { PrimAgrees }
 {}

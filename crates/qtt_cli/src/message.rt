@@ -9,7 +9,8 @@ use qtt_base::{Fault, Span};
 use std::alloc::{AllocError, Global};
 use std::str;
 
-/// The line of a refusal of the module that was asked for by this name: `MODULE:LINE:COL: KIND NAME DETAIL`.
+/// The line of a refusal of the module that was asked for by this name: `MODULE:LINE:COL: KIND
+/// NAME DETAIL`.
 pub fn message(alloc: Global, asked: &str, fault: &Fault) -> Result<Vec<u8>, AllocError>
     ensures { IfOk result (λ text. text.items ≡ line (message asked.now (seen fault.now))) }
 {
@@ -36,7 +37,8 @@ fn push_details(
     asked: &str,
     fault: &Fault,
 ) -> Result<(), AllocError>
-    ensures { OnOk result (text.new.items ≡ text.old.items ++ spaced (details asked.now (seen fault.now))) }
+    ensures { OnOk result (text.new.items ≡ text.old.items ++ spaced
+        (details asked.now (seen fault.now))) }
 {
     match fault.kind {
         2 => text.extend_from_slice(character_told(alloc, &fault.word)?.as_bytes())?,
@@ -60,7 +62,8 @@ fn push_details(
 
 /// The number of a character behind a blank, as `U+` and four hexadecimal digits or more.
 fn character_told(alloc: Global, word: &[u8]) -> Result<String, AllocError>
-    ensures { IfOk result (λ text. string_bytes text ≡ spaced ((codes "U+" ++ hexadecimal (character word.now)) ∷ [])) }
+    ensures { IfOk result (λ text. string_bytes text ≡ spaced
+        ((codes "U+" ++ hexadecimal (character word.now)) ∷ [])) }
 {
     format!(in alloc; " U+{:04X}", character(word))
 }

@@ -14,7 +14,8 @@ use qtt_term::Term;
 
 /// The line of a `putLine`.
 pub fn as_put_line(action: &Term) -> Option<&Text>
-    ensures line { (s : List ℕ) → term action.now ≡ put (core.TextLit s) → option_map (λ line. line.now) result ≡ Some s }
+    ensures line { (s : List ℕ) → term action.now ≡ put (core.TextLit s) →
+        option_map (λ line. line.now) result ≡ Some s }
     ensures other { (t k : core.Term) → term action.now ≡ then_do t k → result ≡ None }
 {
     match action {
@@ -25,7 +26,9 @@ pub fn as_put_line(action: &Term) -> Option<&Text>
 
 /// The action and the continuation of a bind.
 pub fn as_bind(action: &Term) -> Option<(&Term, &Term)>
-    ensures parts { (t k : core.Term) → term action.now ≡ then_do t k → IsSomeAnd result (λ parts. (term parts.0.now ≡ t) × (term parts.1.now ≡ core.Lam ω UnitTy k)) }
+    ensures parts { (t k : core.Term) → term action.now ≡ then_do t k →
+        IsSomeAnd result (λ parts. (term parts.0.now ≡ t) ×
+        (term parts.1.now ≡ core.Lam ω UnitTy k)) }
     ensures other { (s : List ℕ) → term action.now ≡ put (core.TextLit s) → result ≡ None }
 {
     match action {
@@ -40,7 +43,8 @@ pub fn as_bind(action: &Term) -> Option<(&Term, &Term)>
 
 /// The body of a function.
 pub fn as_function(function: &Term) -> Option<&Term>
-    ensures { (b : core.Term) → term function.now ≡ core.Lam ω UnitTy b → option_map (λ body. term body.now) result ≡ Some b }
+    ensures { (b : core.Term) → term function.now ≡ core.Lam ω UnitTy b →
+        option_map (λ body. term body.now) result ≡ Some b }
 {
     match function {
         Term::Lam(_, _, body) => Some(body),
@@ -49,7 +53,8 @@ pub fn as_function(function: &Term) -> Option<&Term>
 }
 
 fn as_text(text: &Term) -> Option<&Text>
-    ensures { (s : List ℕ) → term text.now ≡ core.TextLit s → option_map (λ text. text.now) result ≡ Some s }
+    ensures { (s : List ℕ) → term text.now ≡ core.TextLit s →
+        option_map (λ text. text.now) result ≡ Some s }
 {
     match text {
         Term::Lit(Lit::Text(text)) => Some(text),
@@ -59,7 +64,8 @@ fn as_text(text: &Term) -> Option<&Text>
 
 /// A component of an action, whose components are its type arguments and its arguments.
 fn component<'a>(types: &'a [Term], arguments: &'a [Term], place: usize) -> Option<&'a Term>
-    ensures { option_map (λ t. term t.now) result ≡ component_at (side_by_side (terms types.now) +++ side_by_side (terms arguments.now)) place }
+    ensures { option_map (λ t. term t.now) result ≡ component_at
+        (side_by_side (terms types.now) +++ side_by_side (terms arguments.now)) place }
 {
     nth_of(types, arguments, place)
 }

@@ -1,6 +1,6 @@
 //! Runs of the core terms of smallest programs, one contraction at a time.
 
-ghost use Rattle.std.specs.Prelude.{◌≡◌, ◌++◌, ℕ, List, [], IfOk, OnOk, OnErr, IsErrOf};
+ghost use Rattle.std.specs.Prelude.{ℕ, List, IfOk, OnOk, OnErr, IsErrOf};
 ghost use Rattle.qtt_edge.specs.Counts.{Counts};
 ghost use Rattle.qtt_edge.specs.Sink.{Adds, AddsFront};
 ghost use Rattle.qtt_term.specs.View.{term};
@@ -44,9 +44,12 @@ pub struct Runner<'a> {
 /// Runs a main, and puts its lines.
 pub fn run<O: Sink>(alloc: Global, main: &Term, out: &mut O) -> Result<(), SinkError>
     requires { (ts : List (List ℕ)) × IsCore ts (term main.now) }
-    ensures ok { (ts : List (List ℕ)) → IsCore ts (term main.now) → OnOk result (Adds (O.content out.old) (O.content out.new) (output ts)) }
-    ensures err { (ts : List (List ℕ)) → IsCore ts (term main.now) → OnErr result (AddsFront (O.content out.old) (O.content out.new) (output ts)) }
-    ensures failed { Counts (O.faults out.old) (O.faults out.new) (IsErrOf result SinkError.Failed) }
+    ensures ok { (ts : List (List ℕ)) → IsCore ts (term main.now) →
+        OnOk result (Adds (O.content out.old) (O.content out.new) (output ts)) }
+    ensures err { (ts : List (List ℕ)) → IsCore ts (term main.now) →
+        OnErr result (AddsFront (O.content out.old) (O.content out.new) (output ts)) }
+    ensures failed { Counts (O.faults out.old) (O.faults out.new)
+        (IsErrOf result SinkError.Failed) }
 {
     // The name of the main is its body: one contraction.
     let mut runner = Runner {
@@ -66,9 +69,13 @@ impl Runner<'_> {
     /// Makes one contraction, if the run has not ended.
     fn turn<O: Sink>(&mut self, alloc: Global, out: &mut O) -> Result<Progress, SinkError>
         requires { (ts : List (List ℕ)) × Stands ts self.old.current self.old.waiting.items }
-        ensures ok { (ts : List (List ℕ)) → Stands ts self.old.current self.old.waiting.items → IfOk result (λ progress. Turns progress ts self.old self.new (O.content out.old) (O.content out.new)) }
-        ensures err { (ts : List (List ℕ)) → Stands ts self.old.current self.old.waiting.items → OnErr result (AddsFront (O.content out.old) (O.content out.new) (bytes_of ts)) }
-        ensures failed { Counts (O.faults out.old) (O.faults out.new) (IsErrOf result SinkError.Failed) }
+        ensures ok { (ts : List (List ℕ)) → Stands ts self.old.current self.old.waiting.items →
+            IfOk result (λ progress. Turns progress ts self.old self.new (O.content out.old)
+            (O.content out.new)) }
+        ensures err { (ts : List (List ℕ)) → Stands ts self.old.current self.old.waiting.items →
+            OnErr result (AddsFront (O.content out.old) (O.content out.new) (bytes_of ts)) }
+        ensures failed { Counts (O.faults out.old) (O.faults out.new)
+            (IsErrOf result SinkError.Failed) }
     {
         match self.current {
             Current::Term(action) => match as_bind(action) {
@@ -99,7 +106,8 @@ impl Runner<'_> {
 fn put_line<O: Sink>(alloc: Global, out: &mut O, text: &Text) -> Result<(), SinkError>
     ensures ok { OnOk result (Adds (O.content out.old) (O.content out.new) (line text.now)) }
     ensures err { OnErr result (AddsFront (O.content out.old) (O.content out.new) (line text.now)) }
-    ensures failed { Counts (O.faults out.old) (O.faults out.new) (IsErrOf result SinkError.Failed) }
+    ensures failed { Counts (O.faults out.old) (O.faults out.new)
+        (IsErrOf result SinkError.Failed) }
 {
     let text = text.as_str();
     let Ok(bytes) = format!(in alloc; "{text}\n") else {

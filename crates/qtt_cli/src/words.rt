@@ -1,6 +1,6 @@
 //! The words of the command line.
 
-ghost use Rattle.std.specs.Prelude.{◌≡◌, ◌<◌, ◌^◌, IfOk, option_map, length};
+ghost use Rattle.std.specs.Prelude.{◌≡◌, ◌<◌, IfOk, option_map};
 ghost use Rattle.qtt_cli.specs.Words.{asked, is_module_name, is_only_name, is_named};
 
 use qtt_base::MemoryError;
@@ -10,7 +10,8 @@ use std::alloc::Global;
 /// The greatest number of bytes of a word that is read.
 const MAX_WORD: usize = (1 << 29) - 1;
 
-/// The module that the words ask to run. A word of 2^29 bytes or more in its place is want of memory.
+/// The module that the words ask to run. A word of 2^29 bytes or more in its place is want of
+/// memory.
 pub fn asked_name(alloc: Global, words: &[String]) -> Result<Option<&str>, MemoryError>
     ensures { IfOk result (λ found. option_map (λ name. name.now) found ≡ asked words.now) }
 {

@@ -1,6 +1,6 @@
 //! What the words ask for.
 
-ghost use Rattle.std.specs.Prelude.{◌≡◌, ◌≤◌, ◌⊎◌, ℕ, List, None, IfOk, OnOk, OnErr, IsErrOf, length};
+ghost use Rattle.std.specs.Prelude.{◌≡◌, ◌≤◌, ◌⊎◌, None, OnOk, OnErr, IsErrOf, length};
 ghost use Rattle.qtt_edge.specs.Counts.{Rose, Counts};
 ghost use Rattle.qtt_edge.specs.Sink.{Adds, AddsFront};
 ghost use Rattle.qtt_cli.specs.Words.{asked};
@@ -24,7 +24,14 @@ pub fn work<'a, V: Vault, O: Sink>(
     vault: &mut V,
     out: &mut O,
 ) -> Ending<'a>
-    ensures ends { Ends words.now (V.texts vault.old) (record { vault = Rose (V.faults vault.old) (V.faults vault.new); miss = Rose (V.misses vault.old) (V.misses vault.new); output = Rose (O.faults out.old) (O.faults out.new) }) (O.content out.old) (O.content out.new) result }
+    ensures ends { Ends words.now (V.texts vault.old)
+        (record {
+          vault = Rose (V.faults vault.old) (V.faults vault.new);
+          miss = Rose (V.misses vault.old) (V.misses vault.new);
+          output =
+              Rose (O.faults out.old) (O.faults out.new);
+        }) (O.content out.old)
+        (O.content out.new) result }
     ensures usage { asked words.now ≡ None → (result ≡ Ending.Usage) ⊎ (result ≡ Ending.Memory) }
     ensures texts { V.texts vault.new ≡ V.texts vault.old }
 {
@@ -44,7 +51,8 @@ pub fn work<'a, V: Vault, O: Sink>(
 
 /// Runs the program of a module's text.
 fn run_text<'a, O: Sink>(alloc: Global, name: &'a str, text: &[u8], out: &mut O) -> Ending<'a>
-    ensures { EndsText name.now text.now (Rose (O.faults out.old) (O.faults out.new)) (O.content out.old) (O.content out.new) result }
+    ensures { EndsText name.now text.now (Rose (O.faults out.old) (O.faults out.new))
+        (O.content out.old) (O.content out.new) result }
 {
     let lines = match read(alloc, name, text) {
         Ok(lines) => lines,
@@ -63,8 +71,10 @@ fn run_lines<O: Sink>(alloc: Global, lines: Vec<Text>, out: &mut O) -> Result<()
     requires some { 1 ≤ length lines.items }
     requires few { length lines.items ≤ 500 }
     ensures ok { OnOk result (Adds (O.content out.old) (O.content out.new) (output lines.items)) }
-    ensures err { OnErr result (AddsFront (O.content out.old) (O.content out.new) (output lines.items)) }
-    ensures failed { Counts (O.faults out.old) (O.faults out.new) (IsErrOf result SinkError.Failed) }
+    ensures err { OnErr result
+        (AddsFront (O.content out.old) (O.content out.new) (output lines.items)) }
+    ensures failed { Counts (O.faults out.old) (O.faults out.new)
+        (IsErrOf result SinkError.Failed) }
 {
     let Ok(core) = main_core(alloc, lines) else {
         return Err(SinkError::Memory);

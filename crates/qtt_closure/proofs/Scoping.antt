@@ -40,15 +40,18 @@ place_newer (suc n) i Γ h = elim (cases i n h) [ inl p ↦ place_newer n i (Slo
     cases i n h = grind arith
 
     last : i ≡ n → place_at (bound n (Slot.filled ∷ Γ)) i ≡ i
-    last e = let q : i ≡ n + 0 = omega arith in let r : n + 0 ≡ i = omega arith in ap (place_at (bound n (Slot.filled ∷ Γ))) q ∙ older n 0 (Slot.filled ∷ Γ) ∙ r
+    last e = let q : i ≡ n + 0 = omega arith in let r : n + 0 ≡ i =
+        omega arith in ap (place_at (bound n (Slot.filled ∷ Γ))) q ∙ older n 0 (Slot.filled ∷ Γ) ∙ r
 
 -- ---- a variable among those around the function
 pub place_counted : (bs : List Bool) (i : ℕ) → place_at (slot_list bs) i ≡ count_by (λ b. b) (take i bs)
 place_counted [] zero = refl
 place_counted [] (suc i) = refl
 place_counted (b ∷ bs) zero = refl
-place_counted (true ∷ bs) (suc i) = let p = place_counted bs i in let q = sum_by-cons (λ b. cond b 1 0) true (take i bs) in omega (arith, p, q)
-place_counted (false ∷ bs) (suc i) = let p = place_counted bs i in let q = sum_by-cons (λ b. cond b 1 0) false (take i bs) in omega (arith, p, q)
+place_counted (true ∷ bs) (suc i) = let p = place_counted bs i in let q =
+    sum_by-cons (λ b. cond b 1 0) true (take i bs) in omega (arith, p, q)
+place_counted (false ∷ bs) (suc i) = let p = place_counted bs i in let q =
+    sum_by-cons (λ b. cond b 1 0) false (take i bs) in omega (arith, p, q)
 
 -- ---- the captured variables from number k on, the outermost first
 abbrev pub captured_from : ℕ → Slots → (ℕ → ℕ) → FlatTerms
@@ -66,7 +69,8 @@ none_captured bs place n e = ap (λ k. captured_from k (slot_list bs) place) e �
 -- with the next inner one, if it is captured
 next_captured : (bs : List Bool) (k : ℕ) (d : Bool) (place : ℕ → ℕ) → k < length bs →
     captured_from k (slot_list bs) place
-    ≡ cond (get_or bs k d) (captured_from (suc k) (slot_list bs) place ◂◂ Tree.var (place k) ◂ ∅) (captured_from (suc k) (slot_list bs) place)
+    ≡ cond (get_or bs k d) (captured_from (suc k) (slot_list bs) place ◂◂ Tree.var (place k) ◂ ∅)
+    (captured_from (suc k) (slot_list bs) place)
 next_captured [] k d place h = absurd (omega arith)
 next_captured (true ∷ bs) zero d place h = captured-append (slot_list bs) (λ i. place (suc i)) (Tree.var (place 0) ◂ ∅)
 next_captured (false ∷ bs) zero d place h = refl
@@ -76,31 +80,38 @@ next_captured (b ∷ bs) (suc k) d place h = next_captured bs k d (λ i. place (
 came_down : (k : ℕ) → 0 < k → suc (k - 1) ≡ k
 came_down k h = omega arith
 
-pub skip_captured : (bs : List Bool) (k : ℕ) (d : Bool) (place : ℕ → ℕ) (us : List FlatTerm) → 0 < k → k - 1 < length bs →
-    get_or bs (k - 1) d ≡ false → side_by_side us ≡ captured_from k (slot_list bs) place → side_by_side us ≡ captured_from (k - 1) (slot_list bs) place
+pub skip_captured : (bs : List Bool) (k : ℕ) (d : Bool) (place : ℕ → ℕ) (us : List FlatTerm) → 0 < k →
+    k - 1 < length bs →
+    get_or bs (k - 1) d ≡ false → side_by_side us ≡ captured_from k (slot_list bs) place →
+    side_by_side us ≡ captured_from (k - 1) (slot_list bs) place
 skip_captured bs k d place us h l e q =
     q ∙ ap (λ n. captured_from n (slot_list bs) place) (sym (came_down k h))
     ∙ sym (next_captured bs (k - 1) d place l
-    ∙ ap (λ b. cond b (captured_from (suc (k - 1)) (slot_list bs) place ◂◂ Tree.var (place (k - 1)) ◂ ∅) (captured_from (suc (k - 1)) (slot_list bs) place)) e)
+    ∙ ap (λ b. cond b (captured_from (suc (k - 1)) (slot_list bs) place ◂◂ Tree.var (place (k - 1)) ◂ ∅)
+    (captured_from (suc (k - 1)) (slot_list bs) place)) e)
 
 pub side_append : (us vs : List FlatTerm) → side_by_side (us ++ vs) ≡ side_by_side us ◂◂ side_by_side vs
 side_append [] vs = refl
 side_append (u ∷ us) vs = ap (λ ws. u ◂ ws) (side_append us vs)
 
-pub push_captured : (bs : List Bool) (k : ℕ) (d : Bool) (place : ℕ → ℕ) (us : List FlatTerm) (p : ℕ) → 0 < k → k - 1 < length bs →
+pub push_captured : (bs : List Bool) (k : ℕ) (d : Bool) (place : ℕ → ℕ) (us : List FlatTerm) (p : ℕ) → 0 < k →
+    k - 1 < length bs →
     get_or bs (k - 1) d ≡ true → p ≡ place (k - 1) → side_by_side us ≡ captured_from k (slot_list bs) place →
     side_by_side (us ++ Tree.var p ∷ []) ≡ captured_from (k - 1) (slot_list bs) place
 push_captured bs k d place us p h l e r q =
     side_append us (Tree.var p ∷ []) ∙ ap (λ n. side_by_side us ◂◂ Tree.var n ◂ ∅) r
-    ∙ ap (λ vs. vs ◂◂ Tree.var (place (k - 1)) ◂ ∅) (q ∙ ap (λ n. captured_from n (slot_list bs) place) (sym (came_down k h)))
+    ∙ ap (λ vs. vs ◂◂ Tree.var (place (k - 1)) ◂ ∅)
+    (q ∙ ap (λ n. captured_from n (slot_list bs) place) (sym (came_down k h)))
     ∙ sym (next_captured bs (k - 1) d place l
-    ∙ ap (λ b. cond b (captured_from (suc (k - 1)) (slot_list bs) place ◂◂ Tree.var (place (k - 1)) ◂ ∅) (captured_from (suc (k - 1)) (slot_list bs) place)) e)
+    ∙ ap (λ b. cond b (captured_from (suc (k - 1)) (slot_list bs) place ◂◂ Tree.var (place (k - 1)) ◂ ∅)
+    (captured_from (suc (k - 1)) (slot_list bs) place)) e)
 
 side_size : (us : List FlatTerm) → size (side_by_side us) ≡ length us
 side_size [] = refl
 side_size (u ∷ us) = ap suc (side_size us)
 
-pub captured_count : (us : List FlatTerm) (Δ : Slots) (place : ℕ → ℕ) → side_by_side us ≡ captured Δ place ∅ → length us ≡ places Δ
+pub captured_count : (us : List FlatTerm) (Δ : Slots) (place : ℕ → ℕ) → side_by_side us ≡ captured Δ place ∅ →
+    length us ≡ places Δ
 captured_count us Δ place e = sym (side_size us) ∙ ap size e ∙ captured-places Closure Δ place
 
 -- what the functions over scopes want

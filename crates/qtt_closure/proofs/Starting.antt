@@ -24,20 +24,23 @@ advance-append : (n : ℕ) (Fs Gs : List Function) → advance n (Fs ++ Gs) ≡ 
 advance-append n [] Gs = refl
 advance-append n (F ∷ Fs) Gs = advance-append (suc n) Fs Gs
 
-holds-append : (P : Program) (n : ℕ) (Fs Gs : List Function) → Holds P n (Fs ++ Gs) → Holds P n Fs × Holds P (advance n Fs) Gs
+holds-append : (P : Program) (n : ℕ) (Fs Gs : List Function) → Holds P n (Fs ++ Gs) →
+    Holds P n Fs × Holds P (advance n Fs) Gs
 holds-append P n [] Gs h = (tt, h)
 holds-append P n (F ∷ Fs) Gs h = let p = holds-append P (suc n) Fs Gs h.1 in ((h.0, p.0), p.1)
 
 mutual
   pub after-from : (t : Lean) (n : ℕ) → after n t ≡ n + after 0 t
   after-from (Tree.var i) n = omega arith
-  after-from (Tree.node (Operator.function a) ts) n = let h = afters-from ts (suc n) in let k = afters-from ts 1 in omega (arith, h, k)
+  after-from (Tree.node (Operator.function a) ts) n = let h = afters-from ts (suc n) in let k =
+      afters-from ts 1 in omega (arith, h, k)
   after-from (Tree.node F ts) n = afters-from ts n
 
   afters-from : (ts : Leans) (n : ℕ) → afters n ts ≡ n + afters 0 ts
   afters-from ∅ n = omega arith
   afters-from (t ◂ ts) n =
-      let h = after-from t n in let k = afters-from ts (after n t) in let l = afters-from ts (after 0 t) in omega (arith, h, k, l)
+      let h = after-from t n in let k = afters-from ts (after n t) in let l =
+      afters-from ts (after 0 t) in omega (arith, h, k, l)
 
 -- behind the functions of the first k components, where theirs begin with m
 abbrev waited : ℕ → ℕ → Leans → ℕ
@@ -49,16 +52,20 @@ waited-all : (ts : Leans) (m k : ℕ) → waited m k ts + afters 0 (skip k ts) �
 waited-all ts m zero = refl
 waited-all ∅ m (suc k) = refl
 waited-all (t ◂ ts) m (suc k) =
-    let h = waited-all ts (after m t) k in let k = after-from t m in let l = afters-from ts (after 0 t) in omega (arith, h, k, l)
+    let h = waited-all ts (after m t) k in let k = after-from t m in let l =
+    afters-from ts (after 0 t) in omega (arith, h, k, l)
 
 -- first the functions of the evaluated components, then those of the components that wait
-both-after : (ts : Leans) (n k : ℕ) (ns : List ℕ) (Γ : Slots) → advance n (evaluated_functions n k ns Γ ts) ≡ afters n (skip k ts) →
-    advance (afters n (skip k ts)) (waiting_functions (afters n (skip k ts)) k ns Γ ts) ≡ waited (afters n (skip k ts)) k ts →
+both-after : (ts : Leans) (n k : ℕ) (ns : List ℕ) (Γ : Slots) →
+    advance n (evaluated_functions n k ns Γ ts) ≡ afters n (skip k ts) →
+    advance (afters n (skip k ts)) (waiting_functions (afters n (skip k ts)) k ns Γ ts) ≡ waited
+    (afters n (skip k ts)) k ts →
     advance n (evaluated_functions n k ns Γ ts ++ waiting_functions (afters n (skip k ts)) k ns Γ ts) ≡ afters n ts
 both-after ts n k ns Γ h g =
     advance-append n (evaluated_functions n k ns Γ ts) _
     ∙ ap (λ m. advance m (waiting_functions (afters n (skip k ts)) k ns Γ ts)) h ∙ g
-    ∙ (let w = waited-all ts (afters n (skip k ts)) k in let p = afters-from (skip k ts) n in let q = afters-from ts n in omega (arith, w, p, q))
+    ∙ (let w = waited-all ts (afters n (skip k ts)) k in let p = afters-from (skip k ts) n in
+    let q = afters-from ts n in omega (arith, w, p, q))
 
 mutual
   pub number-after : (t : Lean) (n : ℕ) (Γ : Slots) → advance n (functions n Γ t) ≡ after n t
@@ -71,16 +78,19 @@ mutual
       both-after ts n (waiting F) (lean.binders F) Γ (evaluated-after ts n (waiting F) (lean.binders F) Γ)
       (waiting-after ts (afters n (skip (waiting F) ts)) (waiting F) (lean.binders F) Γ)
 
-  evaluated-after : (ts : Leans) (n k : ℕ) (ns : List ℕ) (Γ : Slots) → advance n (evaluated_functions n k ns Γ ts) ≡ afters n (skip k ts)
+  evaluated-after : (ts : Leans) (n k : ℕ) (ns : List ℕ) (Γ : Slots) →
+      advance n (evaluated_functions n k ns Γ ts) ≡ afters n (skip k ts)
   evaluated-after ∅ n zero ns Γ = refl
   evaluated-after ∅ n (suc k) ns Γ = refl
   evaluated-after (t ◂ ts) n zero ns Γ =
       advance-append n (functions n (bound (first ns) Γ) t) _
-      ∙ ap (λ m. advance m (evaluated_functions (after n t) zero (rest ns) Γ ts)) (number-after t n (bound (first ns) Γ))
+      ∙ ap (λ m. advance m (evaluated_functions (after n t) zero (rest ns) Γ ts))
+      (number-after t n (bound (first ns) Γ))
       ∙ evaluated-after ts (after n t) zero (rest ns) Γ
   evaluated-after (t ◂ ts) n (suc k) ns Γ = evaluated-after ts n k (rest ns) Γ
 
-  waiting-after : (ts : Leans) (m k : ℕ) (ns : List ℕ) (Γ : Slots) → advance m (waiting_functions m k ns Γ ts) ≡ waited m k ts
+  waiting-after : (ts : Leans) (m k : ℕ) (ns : List ℕ) (Γ : Slots) →
+      advance m (waiting_functions m k ns Γ ts) ≡ waited m k ts
   waiting-after ∅ m zero ns Γ = refl
   waiting-after ∅ m (suc k) ns Γ = refl
   waiting-after (t ◂ ts) m zero ns Γ = refl
@@ -95,7 +105,8 @@ held-after P t n Γ Gs h =
     let p = holds-append P n (functions n Γ t) Gs h in
     (p.0, subst (λ m. Holds P m Gs) (number-after t n Γ) p.1)
 
-held-evaluated : (P : Program) (ts : Leans) (n k : ℕ) (ns : List ℕ) (Γ : Slots) (Gs : List Function) → Holds P n (evaluated_functions n k ns Γ ts ++ Gs) →
+held-evaluated : (P : Program) (ts : Leans) (n k : ℕ) (ns : List ℕ) (Γ : Slots) (Gs : List Function) →
+    Holds P n (evaluated_functions n k ns Γ ts ++ Gs) →
     Holds P n (evaluated_functions n k ns Γ ts) × Holds P (afters n (skip k ts)) Gs
 held-evaluated P ts n k ns Γ Gs h =
     let p = holds-append P n (evaluated_functions n k ns Γ ts) Gs h in
@@ -135,7 +146,8 @@ Scoped Γ t = (i : ℕ) → Mentioned t i → IsFilled (slot_at Γ i)
 abbrev pub AllScoped : Slots → List ℕ → Leans → Type 0
 AllScoped Γ ns ts = (i : ℕ) → AnyMentioned ns ts i → IsFilled (slot_at Γ i)
 
-scoped-bound : (k : ℕ) (Γ : Slots) (t : Lean) → ((i : ℕ) → Mentioned t (shift k i) → IsFilled (slot_at Γ i)) → Scoped (bound k Γ) t
+scoped-bound : (k : ℕ) (Γ : Slots) (t : Lean) → ((i : ℕ) → Mentioned t (shift k i) → IsFilled (slot_at Γ i)) →
+    Scoped (bound k Γ) t
 scoped-bound zero Γ t h = h
 scoped-bound (suc k) Γ t h = scoped-bound k (Slot.filled ∷ Γ) t go
   where
@@ -143,13 +155,17 @@ scoped-bound (suc k) Γ t h = scoped-bound k (Slot.filled ∷ Γ) t go
     go zero e = tt
     go (suc i) e = h i (ap (λ j. mentions j t) (shift-suc k i) ∙ e)
 
-pub scoped-first : (Γ : Slots) (ns : List ℕ) (t : Lean) (ts : Leans) → AllScoped Γ ns (t ◂ ts) → Scoped (bound (first ns) Γ) t
-scoped-first Γ ns t ts h = scoped-bound (first ns) Γ t (λ i e. h i (or-left (mentions (shift (first ns) i) t) (any_mentions (rest ns) i ts) e))
+pub scoped-first : (Γ : Slots) (ns : List ℕ) (t : Lean) (ts : Leans) → AllScoped Γ ns (t ◂ ts) →
+    Scoped (bound (first ns) Γ) t
+scoped-first Γ ns t ts h =
+    scoped-bound (first ns) Γ t
+    (λ i e. h i (or-left (mentions (shift (first ns) i) t) (any_mentions (rest ns) i ts) e))
 
 pub scoped-rest : (Γ : Slots) (ns : List ℕ) (t : Lean) (ts : Leans) → AllScoped Γ ns (t ◂ ts) → AllScoped Γ (rest ns) ts
 scoped-rest Γ ns t ts h i e = h i (or-right (mentions (shift (first ns) i) t) (any_mentions (rest ns) i ts) e)
 
-captured-slot : (j : ℕ) (t : Lean) (Γ : Slots) (i : ℕ) → Mentioned t (shift i j) → IsFilled (slot_at Γ i) → IsFilled (slot_at (captures j t Γ) i)
+captured-slot : (j : ℕ) (t : Lean) (Γ : Slots) (i : ℕ) → Mentioned t (shift i j) → IsFilled (slot_at Γ i) →
+    IsFilled (slot_at (captures j t Γ) i)
 captured-slot j t [] i e u = absurd u
 captured-slot j t (s ∷ Γ) zero e u = subst (λ b. IsFilled (cond b Slot.filled Slot.gone)) (sym e) tt
 captured-slot j t (s ∷ Γ) (suc i) e u = captured-slot (suc j) t Γ i (ap (λ k. mentions k t) (sym (shift-suc i j)) ∙ e) u
@@ -173,7 +189,8 @@ lifts-mentioned (suc k) t σ τ h = lifts-mentioned k t (lift lean.binders σ) (
     go (suc i) e = ap (ren lean.binders suc) (h i (ap (λ j. mentions j t) (shift-suc k i) ∙ e))
 
 mutual
-  sub-mentioned : (t : Lean) (σ τ : ℕ → Lean) → ((i : ℕ) → Mentioned t i → σ i ≡ τ i) → sub lean.binders σ t ≡ sub lean.binders τ t
+  sub-mentioned : (t : Lean) (σ τ : ℕ → Lean) → ((i : ℕ) → Mentioned t i → σ i ≡ τ i) →
+      sub lean.binders σ t ≡ sub lean.binders τ t
   sub-mentioned (Tree.var i) σ τ h = h i (eq-eqb i i refl)
   sub-mentioned (Tree.node F ts) σ τ h = ap (Tree.node F) (subs-mentioned ts (lean.binders F) σ τ h)
 
@@ -182,11 +199,14 @@ mutual
   subs-mentioned ∅ ns σ τ h = refl
   subs-mentioned (t ◂ ts) ns σ τ h =
       ap₂ ◌◂◌
-      (sub-mentioned t _ _ (lifts-mentioned (first ns) t σ τ (λ i e. h i (or-left (mentions (shift (first ns) i) t) (any_mentions (rest ns) i ts) e))))
-      (subs-mentioned ts (rest ns) σ τ (λ i e. h i (or-right (mentions (shift (first ns) i) t) (any_mentions (rest ns) i ts) e)))
+      (sub-mentioned t _ _ (lifts-mentioned (first ns) t σ τ
+      (λ i e. h i (or-left (mentions (shift (first ns) i) t) (any_mentions (rest ns) i ts) e))))
+      (subs-mentioned ts (rest ns) σ τ
+      (λ i e. h i (or-right (mentions (shift (first ns) i) t) (any_mentions (rest ns) i ts) e)))
 
 -- ---- renamings that stay below n at what is mentioned
-renamed-bound : (k : ℕ) (t : Lean) (ρ : ℕ → ℕ) (n : ℕ) → ((i : ℕ) → Mentioned t (shift k i) → ρ i < n) → (i : ℕ) → Mentioned t i → lifts_ren k ρ i < k + n
+renamed-bound : (k : ℕ) (t : Lean) (ρ : ℕ → ℕ) (n : ℕ) → ((i : ℕ) → Mentioned t (shift k i) → ρ i < n) →
+    (i : ℕ) → Mentioned t i → lifts_ren k ρ i < k + n
 renamed-bound zero t ρ n h i e = let p = h i e in omega arith
 renamed-bound (suc k) t ρ n h i e = let p = renamed-bound k t (lift_ren ρ) (suc n) go i e in omega arith
   where
@@ -195,16 +215,20 @@ renamed-bound (suc k) t ρ n h i e = let p = renamed-bound k t (lift_ren ρ) (su
     go (suc i) e = let p = h i (ap (λ j. mentions j t) (shift-suc k i) ∙ e) in omega arith
 
 mutual
-  ren-below : (t : Lean) (ρ : ℕ → ℕ) (n : ℕ) → ((i : ℕ) → Mentioned t i → ρ i < n) → Below lean.binders n (ren lean.binders ρ t)
+  ren-below : (t : Lean) (ρ : ℕ → ℕ) (n : ℕ) → ((i : ℕ) → Mentioned t i → ρ i < n) →
+      Below lean.binders n (ren lean.binders ρ t)
   ren-below (Tree.var i) ρ n h = h i (eq-eqb i i refl)
   ren-below (Tree.node F ts) ρ n h = rens-below ts (lean.binders F) ρ n h
 
-  rens-below : (ts : Leans) (ns : List ℕ) (ρ : ℕ → ℕ) (n : ℕ) → ((i : ℕ) → AnyMentioned ns ts i → ρ i < n) → AllBelow lean.binders ns n (rens lean.binders ns ρ ts)
+  rens-below : (ts : Leans) (ns : List ℕ) (ρ : ℕ → ℕ) (n : ℕ) → ((i : ℕ) → AnyMentioned ns ts i → ρ i < n) →
+      AllBelow lean.binders ns n (rens lean.binders ns ρ ts)
   rens-below ∅ ns ρ n h = tt
   rens-below (t ◂ ts) ns ρ n h = (
     ren-below t (lifts_ren (first ns) ρ) (first ns + n)
-        (renamed-bound (first ns) t ρ n (λ i e. h i (or-left (mentions (shift (first ns) i) t) (any_mentions (rest ns) i ts) e))),
-    rens-below ts (rest ns) ρ n (λ i e. h i (or-right (mentions (shift (first ns) i) t) (any_mentions (rest ns) i ts) e)),
+        (renamed-bound (first ns) t ρ n
+        (λ i e. h i (or-left (mentions (shift (first ns) i) t) (any_mentions (rest ns) i ts) e))),
+    rens-below ts (rest ns) ρ n
+        (λ i e. h i (or-right (mentions (shift (first ns) i) t) (any_mentions (rest ns) i ts) e)),
   )
 
 -- what is mentioned of a term with all variables below n is below n
@@ -217,7 +241,8 @@ mutual
   any-below ∅ ns n i b e = absurd (cc e)
   any-below (t ◂ ts) ns n i b e =
       elim (or-either (mentions (shift (first ns) i) t) (any_mentions (rest ns) i ts) e) [
-        | inl p ↦ let q = mentioned-below t (first ns + n) (shift (first ns) i) b.0 p in let r = shifted (first ns) i in omega (arith, q, r)
+        | inl p ↦ let q = mentioned-below t (first ns + n) (shift (first ns) i) b.0 p in let r =
+            shifted (first ns) i in omega (arith, q, r)
         | inr p ↦ any-below ts (rest ns) n i b.1 p
       ]
 
@@ -248,10 +273,12 @@ module _ {A : Type 0} where
   captured-append [] place vs = refl
   captured-append (Slot.gone ∷ Δ) place vs = captured-append Δ (λ i. place (suc i)) vs
   captured-append (Slot.blank ∷ Δ) place vs =
-      captured-append Δ (λ i. place (suc i)) (Tree.var (place 0) ◂ vs) ∙ one-moved (captured Δ (λ i. place (suc i)) ∅) (Tree.var (place 0)) vs
+      captured-append Δ (λ i. place (suc i)) (Tree.var (place 0) ◂ vs) ∙
+      one-moved (captured Δ (λ i. place (suc i)) ∅) (Tree.var (place 0)) vs
       ∙ ap (λ us. us ◂◂ vs) (sym (captured-append Δ (λ i. place (suc i)) (Tree.var (place 0) ◂ ∅)))
   captured-append (Slot.filled ∷ Δ) place vs =
-      captured-append Δ (λ i. place (suc i)) (Tree.var (place 0) ◂ vs) ∙ one-moved (captured Δ (λ i. place (suc i)) ∅) (Tree.var (place 0)) vs
+      captured-append Δ (λ i. place (suc i)) (Tree.var (place 0) ◂ vs) ∙
+      one-moved (captured Δ (λ i. place (suc i)) ∅) (Tree.var (place 0)) vs
       ∙ ap (λ us. us ◂◂ vs) (sym (captured-append Δ (λ i. place (suc i)) (Tree.var (place 0) ◂ ∅)))
 
   -- pushed, the captured variables stand where their frame has them
@@ -276,15 +303,18 @@ module _ {A : Type 0} where
   captured-size : (Δ : Slots) (place : ℕ → ℕ) (vs : Codes A) → size (captured Δ place vs) ≡ places Δ + size vs
   captured-size [] place vs = omega arith
   captured-size (Slot.gone ∷ Δ) place vs = captured-size Δ (λ i. place (suc i)) vs
-  captured-size (Slot.blank ∷ Δ) place vs = let p = captured-size Δ (λ i. place (suc i)) (Tree.var (place 0) ◂ vs) in omega arith
-  captured-size (Slot.filled ∷ Δ) place vs = let p = captured-size Δ (λ i. place (suc i)) (Tree.var (place 0) ◂ vs) in omega arith
+  captured-size (Slot.blank ∷ Δ) place vs = let p =
+      captured-size Δ (λ i. place (suc i)) (Tree.var (place 0) ◂ vs) in omega arith
+  captured-size (Slot.filled ∷ Δ) place vs = let p =
+      captured-size Δ (λ i. place (suc i)) (Tree.var (place 0) ◂ vs) in omega arith
 
 pub captured-places : (A : Type 0) (Δ : Slots) (place : ℕ → ℕ) → size (captured {A = A} Δ place ∅) ≡ places Δ
 captured-places A Δ place = let p = captured-size {A = A} Δ place ∅ in omega arith
 
 -- ---- a converted term
 module _ (P : Program) where
-  captured-stand : (Δ : Slots) (place : ℕ → ℕ) (ts : Leans) (us : FlatTerms) → AllStandFor P ts us → AllStandFor P (captured Δ place ts) (captured Δ place us)
+  captured-stand : (Δ : Slots) (place : ℕ → ℕ) (ts : Leans) (us : FlatTerms) → AllStandFor P ts us →
+      AllStandFor P (captured Δ place ts) (captured Δ place us)
   captured-stand [] place ts us h = h
   captured-stand (Slot.gone ∷ Δ) place ts us h = captured-stand Δ _ ts us h
   captured-stand (Slot.blank ∷ Δ) place ts us h = captured-stand Δ _ _ _ (AllStandFor.more StandsFor.variable h)
@@ -293,16 +323,22 @@ module _ (P : Program) where
   -- a term is its renaming into the frame of what it mentions, with the captured variables put in
   recovered : (t : Lean) (Γ : Slots) → Scoped Γ t →
       ren lean.binders (place_at Γ) t
-      ≡ sub lean.binders (push (captured (captures 0 t Γ) (place_at Γ) ∅) Tree.var) (ren lean.binders (place_at (captures 0 t Γ)) t)
+      ≡ sub lean.binders (push (captured (captures 0 t Γ) (place_at Γ) ∅) Tree.var)
+      (ren lean.binders (place_at (captures 0 t Γ)) t)
   recovered t Γ h =
       ren-is-sub lean.binders (place_at Γ) t
-      ∙ sym (sub-ren lean.binders t (push (captured (captures 0 t Γ) (place_at Γ) ∅) Tree.var) (place_at (captures 0 t Γ))
-      ∙ sub-mentioned t _ _ (λ i e. captured-pushed (captures 0 t Γ) (place_at Γ) Tree.var i (captured-mentioned t Γ h i e)))
+      ∙ sym (sub-ren lean.binders t (push (captured (captures 0 t Γ) (place_at Γ) ∅) Tree.var)
+      (place_at (captures 0 t Γ))
+      ∙ sub-mentioned t _ _ (λ i e. captured-pushed (captures 0 t Γ) (place_at Γ) Tree.var i
+      (captured-mentioned t Γ h i e)))
 
   captured-below : (t : Lean) (Γ : Slots) → Scoped Γ t →
-      Below lean.binders (size (captured {A = Abstraction} (captures 0 t Γ) (place_at Γ) ∅)) (ren lean.binders (place_at (captures 0 t Γ)) t)
+      Below lean.binders (size (captured {A = Abstraction} (captures 0 t Γ) (place_at Γ) ∅))
+      (ren lean.binders (place_at (captures 0 t Γ)) t)
   captured-below t Γ h =
-      ren-below t (place_at (captures 0 t Γ)) _ (λ i e. subst (λ n. place_at (captures 0 t Γ) i < n) (sym (captured-places Abstraction (captures 0 t Γ) (place_at Γ)))
+      ren-below t (place_at (captures 0 t Γ)) _
+      (λ i e. subst (λ n. place_at (captures 0 t Γ) i < n)
+      (sym (captured-places Abstraction (captures 0 t Γ) (place_at Γ)))
       (place-below (captures 0 t Γ) i (captured-mentioned t Γ h i e)))
 
   -- a function of a body that stands for its converted body
@@ -312,12 +348,18 @@ module _ (P : Program) where
       StandsFor P (ren lean.binders (place_at Γ) (function_of a b)) (flat n Γ (function_of a b))
   function-stands Abstraction.fun b n Γ u h p s =
       let Δ : Slots = captures 0 (function_of Abstraction.fun b) Γ in
-      StandsFor.closure p (captured-places Closure Δ (place_at Γ) ∙ sym (captured-places Abstraction Δ (place_at Γ))) (sym (captured-places Abstraction Δ (place_at Γ))) refl s
-      (captured-below (function_of Abstraction.fun b) Γ h) (captured-stand Δ (place_at Γ) ∅ ∅ AllStandFor.none) (recovered (function_of Abstraction.fun b) Γ h)
+      StandsFor.closure p (captured-places Closure Δ (place_at Γ) ∙
+      sym (captured-places Abstraction Δ (place_at Γ))) (sym (captured-places Abstraction Δ (place_at Γ)))
+      refl s
+      (captured-below (function_of Abstraction.fun b) Γ h) (captured-stand Δ (place_at Γ) ∅ ∅ AllStandFor.none)
+      (recovered (function_of Abstraction.fun b) Γ h)
   function-stands Abstraction.thunk b n Γ u h p s =
       let Δ : Slots = captures 0 (function_of Abstraction.thunk b) Γ in
-      StandsFor.closure p (captured-places Closure Δ (place_at Γ) ∙ sym (captured-places Abstraction Δ (place_at Γ))) (sym (captured-places Abstraction Δ (place_at Γ))) refl s
-      (captured-below (function_of Abstraction.thunk b) Γ h) (captured-stand Δ (place_at Γ) ∅ ∅ AllStandFor.none) (recovered (function_of Abstraction.thunk b) Γ h)
+      StandsFor.closure p (captured-places Closure Δ (place_at Γ) ∙
+      sym (captured-places Abstraction Δ (place_at Γ))) (sym (captured-places Abstraction Δ (place_at Γ)))
+      refl s
+      (captured-below (function_of Abstraction.thunk b) Γ h) (captured-stand Δ (place_at Γ) ∅ ∅ AllStandFor.none)
+      (recovered (function_of Abstraction.thunk b) Γ h)
 
   -- a body in the frame of its function
   in-frame : (k : ℕ) (Δ : Slots) (b : Lean) (u : FlatTerm) → StandsFor P (ren lean.binders (place_at (bound k Δ)) b) u →
@@ -338,15 +380,21 @@ module _ (P : Program) where
         let t : Lean = function_of Abstraction.fun b in
         let Δ : Slots = captures 0 t Γ in
         function-stands Abstraction.fun b n Γ (flat (suc n) (bound 1 Δ) b) s h.0
-        (in-frame 1 Δ b _ (converted-stands b (suc n) (bound 1 Δ) f.1.0 (scoped-first Δ (1 ∷ []) b ∅ (captured-mentioned t Γ s)) (held-after P b (suc n) (bound 1 Δ) [] h.1).0))
+        (in-frame 1 Δ b _ (converted-stands b (suc n) (bound 1 Δ) f.1.0
+        (scoped-first Δ (1 ∷ []) b ∅ (captured-mentioned t Γ s))
+        (held-after P b (suc n) (bound 1 Δ) [] h.1).0))
     converted-stands (Tree.node (Operator.function Abstraction.thunk) (b ◂ ∅)) n Γ f s h =
         let t : Lean = function_of Abstraction.thunk b in
         let Δ : Slots = captures 0 t Γ in
         function-stands Abstraction.thunk b n Γ (flat (suc n) (bound 0 Δ) b) s h.0
-        (in-frame 0 Δ b _ (converted-stands b (suc n) (bound 0 Δ) f.1.0 (scoped-first Δ (0 ∷ []) b ∅ (captured-mentioned t Γ s)) (held-after P b (suc n) (bound 0 Δ) [] h.1).0))
+        (in-frame 0 Δ b _ (converted-stands b (suc n) (bound 0 Δ) f.1.0
+        (scoped-first Δ (0 ∷ []) b ∅ (captured-mentioned t Γ s))
+        (held-after P b (suc n) (bound 0 Δ) [] h.1).0))
     converted-stands (Tree.node F ts) n Γ f s h =
-        let k = held-evaluated P ts n (waiting F) (lean.binders F) Γ (waiting_functions (afters n (skip (waiting F) ts)) (waiting F) (lean.binders F) Γ ts) h in
-        StandsFor.operator tt (components-stand ts n (afters n (skip (waiting F) ts)) (waiting F) (lean.binders F) Γ f.1 s k.0 k.1)
+        let k = held-evaluated P ts n (waiting F) (lean.binders F) Γ
+        (waiting_functions (afters n (skip (waiting F) ts)) (waiting F) (lean.binders F) Γ ts) h in
+        StandsFor.operator tt (components-stand ts n (afters n (skip (waiting F) ts)) (waiting F)
+        (lean.binders F) Γ f.1 s k.0 k.1)
 
     components-stand : (ts : Leans) (n m k : ℕ) (ns : List ℕ) (Γ : Slots) → AllFormed ts → AllScoped Γ ns ts →
         Holds P n (evaluated_functions n k ns Γ ts) → Holds P m (waiting_functions m k ns Γ ts) →
@@ -354,11 +402,14 @@ module _ (P : Program) where
     components-stand ∅ n m k ns Γ f s h g = AllStandFor.none
     components-stand (t ◂ ts) n m zero ns Γ f s h g =
         let p = held-after P t n (bound (first ns) Γ) (evaluated_functions (after n t) zero (rest ns) Γ ts) h in
-        AllStandFor.more (in-frame (first ns) Γ t _ (converted-stands t n (bound (first ns) Γ) f.0 (scoped-first Γ ns t ts s) p.0))
-        (components-stand ts (after n t) m zero (rest ns) Γ f.1 (scoped-rest Γ ns t ts s) p.1 (nothing-waits ts m (rest ns) Γ))
+        AllStandFor.more (in-frame (first ns) Γ t _
+        (converted-stands t n (bound (first ns) Γ) f.0 (scoped-first Γ ns t ts s) p.0))
+        (components-stand ts (after n t) m zero (rest ns) Γ f.1 (scoped-rest Γ ns t ts s) p.1
+        (nothing-waits ts m (rest ns) Γ))
     components-stand (t ◂ ts) n m (suc k) ns Γ f s h g =
         let p = held-after P t m (bound (first ns) Γ) (waiting_functions (after m t) k (rest ns) Γ ts) g in
-        AllStandFor.more (in-frame (first ns) Γ t _ (converted-stands t m (bound (first ns) Γ) f.0 (scoped-first Γ ns t ts s) p.0))
+        AllStandFor.more (in-frame (first ns) Γ t _
+        (converted-stands t m (bound (first ns) Γ) f.0 (scoped-first Γ ns t ts s) p.0))
         (components-stand ts n (after m t) k (rest ns) Γ f.1 (scoped-rest Γ ns t ts s) h p.1)
 
   pub stands-for-its-term : (n : ℕ) (t : Lean) → IsHeld P n t → StandsFor P t (flat n [] t)
@@ -369,4 +420,5 @@ module _ (P : Program) where
       scoped i e = let p = mentioned-below t 0 i h.closed e in absurd (omega arith)
 
       unmoved : ren lean.binders (place_at []) t ≡ t
-      unmoved = ren-is-sub lean.binders (place_at []) t ∙ sub-mentioned t _ Tree.var (λ i e. absurd (scoped i e)) ∙ sub-var lean.binders t
+      unmoved = ren-is-sub lean.binders (place_at []) t ∙ sub-mentioned t _ Tree.var
+          (λ i e. absurd (scoped i e)) ∙ sub-var lean.binders t

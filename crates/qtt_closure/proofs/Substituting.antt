@@ -28,14 +28,16 @@ same-binders (Operator.tape n) o = refl
 
 -- a body with terms for its captured variables, into which is substituted
 filled : (a : Abstraction) (b : Lean) (ls : Leans) (σ : ℕ → Lean) → Below lean.binders (size ls) (function_of a b) →
-    sub lean.binders σ (sub lean.binders (push ls Tree.var) (function_of a b)) ≡ sub lean.binders (push (subs lean.binders [] σ ls) Tree.var) (function_of a b)
+    sub lean.binders σ (sub lean.binders (push ls Tree.var) (function_of a b)) ≡ sub lean.binders
+    (push (subs lean.binders [] σ ls) Tree.var) (function_of a b)
 filled a b ls σ w =
     sub-sub lean.binders (function_of a b) σ (push ls Tree.var)
     ∙ ap (λ τ. sub lean.binders τ (function_of a b)) (push-then_sub lean.binders ls σ Tree.var)
     ∙ sub-below lean.binders (function_of a b) (size ls) _ _ at w
   where
     at : (i : ℕ) → i < size ls → push (subs lean.binders [] σ ls) σ i ≡ push (subs lean.binders [] σ ls) Tree.var i
-    at i p = push-agree (subs lean.binders [] σ ls) σ Tree.var i (subst (λ k. i < k) (sym (subs-size lean.binders ls [] σ)) p)
+    at i p = push-agree (subs lean.binders [] σ ls) σ Tree.var i
+        (subst (λ k. i < k) (sym (subs-size lean.binders ls [] σ)) p)
 
 module _ (P : Program) where
   pub all-size : {ts : Leans} {us : FlatTerms} → AllStandFor P ts us → size ts ≡ size us
@@ -43,29 +45,39 @@ module _ (P : Program) where
   all-size (AllStandFor.more p h) = ap suc (all-size h)
 
   -- a closure after a substitution, into what it captured
-  closed : {a : Abstraction} {b : Lean} {c : Closure} {F : Function} {vs : FlatTerms} (ls : Leans) (σ : ℕ → Lean) → P c.number ≡ Some F →
-      c.captured ≡ size ls → F.captured ≡ size ls → F.takes ≡ arity a → StandsFor P b F.body → Below lean.binders (size ls) (function_of a b) →
+  closed : {a : Abstraction} {b : Lean} {c : Closure} {F : Function} {vs : FlatTerms} (ls : Leans)
+      (σ : ℕ → Lean) → P c.number ≡ Some F →
+      c.captured ≡ size ls → F.captured ≡ size ls → F.takes ≡ arity a → StandsFor P b F.body →
+      Below lean.binders (size ls) (function_of a b) →
       AllStandFor P (subs lean.binders [] σ ls) vs →
-      StandsFor P (sub lean.binders σ (sub lean.binders (push ls Tree.var) (function_of a b))) (Tree.node (Operator.function c) vs)
+      StandsFor P (sub lean.binders σ (sub lean.binders (push ls Tree.var) (function_of a b)))
+      (Tree.node (Operator.function c) vs)
   closed {a = a} {b = b} ls σ p c k s r w h =
       let size-kept : size ls ≡ size (subs lean.binders [] σ ls) = sym (subs-size lean.binders ls [] σ) in
-      StandsFor.closure p (c ∙ size-kept) (k ∙ size-kept) s r (subst (λ n. Below lean.binders n (function_of a b)) size-kept w) h (filled a b ls σ w)
+      StandsFor.closure p (c ∙ size-kept) (k ∙ size-kept) s r
+      (subst (λ n. Below lean.binders n (function_of a b)) size-kept w) h (filled a b ls σ w)
 
   mutual
-    stands-ren : {t : Lean} {u : FlatTerm} → StandsFor P t u → (ρ : ℕ → ℕ) → StandsFor P (ren lean.binders ρ t) (ren flat.binders ρ u)
+    stands-ren : {t : Lean} {u : FlatTerm} → StandsFor P t u →
+        (ρ : ℕ → ℕ) → StandsFor P (ren lean.binders ρ t) (ren flat.binders ρ u)
     stands-ren StandsFor.variable ρ = StandsFor.variable
     stands-ren (StandsFor.operator {F = F} {ts = ts} {us = us} o h) ρ =
         StandsFor.operator o
-        (subst (λ ns. AllStandFor P (rens lean.binders (lean.binders F) ρ ts) (rens flat.binders ns ρ us)) (sym (same-binders F o)) (all-ren h (lean.binders F) ρ))
+        (subst (λ ns. AllStandFor P (rens lean.binders (lean.binders F) ρ ts) (rens flat.binders ns ρ us))
+        (sym (same-binders F o)) (all-ren h (lean.binders F) ρ))
     stands-ren (StandsFor.closure {a = a} {b = b} {t = t} {ls = ls} {c = c} {vs = vs} p n k s r w h e) ρ =
-        subst (λ x. StandsFor P x (Tree.node (Operator.function c) (rens flat.binders [] ρ vs))) (sym (ap (ren lean.binders ρ) e ∙ ren-is-sub lean.binders ρ (sub lean.binders (push ls Tree.var) (function_of a b))))
+        subst (λ x. StandsFor P x (Tree.node (Operator.function c) (rens flat.binders [] ρ vs)))
+        (sym (ap (ren lean.binders ρ) e ∙ ren-is-sub lean.binders ρ
+        (sub lean.binders (push ls Tree.var) (function_of a b))))
         (closed ls (λ i. Tree.var (ρ i)) p n k s r w
-        (subst (λ xs. AllStandFor P xs (rens flat.binders [] ρ vs)) (rens-are-subs lean.binders ls [] ρ) (all-ren h [] ρ)))
+        (subst (λ xs. AllStandFor P xs (rens flat.binders [] ρ vs)) (rens-are-subs lean.binders ls [] ρ)
+        (all-ren h [] ρ)))
 
     all-ren : {ts : Leans} {us : FlatTerms} → AllStandFor P ts us → (ns : List ℕ) (ρ : ℕ → ℕ) →
         AllStandFor P (rens lean.binders ns ρ ts) (rens flat.binders ns ρ us)
     all-ren AllStandFor.none ns ρ = AllStandFor.none
-    all-ren (AllStandFor.more p h) ns ρ = AllStandFor.more (stands-ren p (lifts_ren (first ns) ρ)) (all-ren h (rest ns) ρ)
+    all-ren (AllStandFor.more p h) ns ρ =
+        AllStandFor.more (stands-ren p (lifts_ren (first ns) ρ)) (all-ren h (rest ns) ρ)
 
   abbrev pub Carries : (ℕ → Lean) → (ℕ → FlatTerm) → Type 0
   Carries σ τ = (i : ℕ) → StandsFor P (σ i) (τ i)
@@ -74,7 +86,8 @@ module _ (P : Program) where
   carries-lift σ τ h zero = StandsFor.variable
   carries-lift σ τ h (suc i) = stands-ren (h i) suc
 
-  carries-lifts : (n : ℕ) (σ : ℕ → Lean) (τ : ℕ → FlatTerm) → Carries σ τ → Carries (lifts lean.binders n σ) (lifts flat.binders n τ)
+  carries-lifts : (n : ℕ) (σ : ℕ → Lean) (τ : ℕ → FlatTerm) → Carries σ τ →
+      Carries (lifts lean.binders n σ) (lifts flat.binders n τ)
   carries-lifts zero σ τ h = h
   carries-lifts (suc n) σ τ h = carries-lifts n _ _ (carries-lift σ τ h)
 
@@ -84,22 +97,28 @@ module _ (P : Program) where
     stands-sub (StandsFor.variable {i = i}) σ τ g = g i
     stands-sub (StandsFor.operator {F = F} {ts = ts} {us = us} o h) σ τ g =
         StandsFor.operator o
-        (subst (λ ns. AllStandFor P (subs lean.binders (lean.binders F) σ ts) (subs flat.binders ns τ us)) (sym (same-binders F o)) (all-sub h (lean.binders F) σ τ g))
+        (subst (λ ns. AllStandFor P (subs lean.binders (lean.binders F) σ ts) (subs flat.binders ns τ us))
+        (sym (same-binders F o)) (all-sub h (lean.binders F) σ τ g))
     stands-sub (StandsFor.closure {ls = ls} {c = c} {vs = vs} p n k s r w h e) σ τ g =
-        subst (λ x. StandsFor P x (Tree.node (Operator.function c) (subs flat.binders [] τ vs))) (sym (ap (sub lean.binders σ) e))
+        subst (λ x. StandsFor P x (Tree.node (Operator.function c) (subs flat.binders [] τ vs)))
+        (sym (ap (sub lean.binders σ) e))
         (closed ls σ p n k s r w (all-sub h [] σ τ g))
 
-    all-sub : {ts : Leans} {us : FlatTerms} → AllStandFor P ts us → (ns : List ℕ) (σ : ℕ → Lean) (τ : ℕ → FlatTerm) → Carries σ τ →
+    all-sub : {ts : Leans} {us : FlatTerms} → AllStandFor P ts us →
+        (ns : List ℕ) (σ : ℕ → Lean) (τ : ℕ → FlatTerm) → Carries σ τ →
         AllStandFor P (subs lean.binders ns σ ts) (subs flat.binders ns τ us)
     all-sub AllStandFor.none ns σ τ g = AllStandFor.none
-    all-sub (AllStandFor.more p h) ns σ τ g = AllStandFor.more (stands-sub p _ _ (carries-lifts (first ns) σ τ g)) (all-sub h (rest ns) σ τ g)
+    all-sub (AllStandFor.more p h) ns σ τ g =
+        AllStandFor.more (stands-sub p _ _ (carries-lifts (first ns) σ τ g)) (all-sub h (rest ns) σ τ g)
 
   -- ---- pushed terms
-  carries-cons : {t : Lean} {u : FlatTerm} → StandsFor P t u → (σ : ℕ → Lean) (τ : ℕ → FlatTerm) → Carries σ τ → Carries (cons t σ) (cons u τ)
+  carries-cons : {t : Lean} {u : FlatTerm} → StandsFor P t u → (σ : ℕ → Lean) (τ : ℕ → FlatTerm) → Carries σ τ →
+      Carries (cons t σ) (cons u τ)
   carries-cons p σ τ g zero = p
   carries-cons p σ τ g (suc i) = g i
 
-  carries-push : {ts : Leans} {us : FlatTerms} → AllStandFor P ts us → (σ : ℕ → Lean) (τ : ℕ → FlatTerm) → Carries σ τ → Carries (push ts σ) (push us τ)
+  carries-push : {ts : Leans} {us : FlatTerms} → AllStandFor P ts us →
+      (σ : ℕ → Lean) (τ : ℕ → FlatTerm) → Carries σ τ → Carries (push ts σ) (push us τ)
   carries-push AllStandFor.none σ τ g = g
   carries-push (AllStandFor.more p h) σ τ g = carries-push h _ _ (carries-cons p σ τ g)
 

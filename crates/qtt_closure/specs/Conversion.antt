@@ -1,5 +1,5 @@
--- Closure conversion. Functions are numbered in preorder, those of a Case's scrutinee before those of its branches. A function captures
--- the variables of its surroundings that it mentions, the outermost first.
+-- Closure conversion. Functions are numbered in preorder, those of a Case's scrutinee before those of its
+-- branches. A function captures the variables of its surroundings that it mentions, the outermost first.
 use Rattle.std.specs.Prelude.{ℕ, zero, suc, List, [], ◌∷◌, ◌++◌, Bool, false, cond, ◌||◌, eqb}
 use Rattle.qtt_term.specs.Term.{first, rest}
 use Rattle.qtt_term.specs.Substitution.{shift}
@@ -57,7 +57,8 @@ abbrev pub captures : ℕ → Lean → Slots → Slots
 captures i t [] = []
 captures i t (s ∷ Γ) = cond (mentions i t) Slot.filled Slot.gone ∷ captures (suc i) t Γ
 
--- those variables, the outermost first, in front of others; place tells where a variable is in the surrounding frame
+-- those variables, the outermost first, in front of others; place tells where a variable is in the surrounding
+-- frame
 abbrev pub captured : {A : Type 0} → Slots → (ℕ → ℕ) → Codes A → Codes A
 captured [] place vs = vs
 captured (Slot.gone ∷ Δ) place vs = captured Δ (λ i. place (suc i)) vs
@@ -91,7 +92,8 @@ converted F n t Γ us = Tree.node (other F) us
 abbrev mutual
   pub flat : ℕ → Slots → Lean → FlatTerm
   flat n Γ (Tree.var i) = Tree.var (place_at Γ i)
-  flat n Γ (Tree.node F ts) = converted F n (Tree.node F ts) Γ (flats n (afters n (skip (waiting F) ts)) (waiting F) (binders F) Γ ts)
+  flat n Γ (Tree.node F ts) =
+      converted F n (Tree.node F ts) Γ (flats n (afters n (skip (waiting F) ts)) (waiting F) (binders F) Γ ts)
 
   -- the first k components have their functions from m on, the others from n on
   pub flats : ℕ → ℕ → ℕ → List ℕ → Slots → Leans → FlatTerms
@@ -111,7 +113,8 @@ first_or_type (u ◂ us) = u
 
 -- of a function its own entry, whose body is its converted component
 abbrev pub own_function : Operator Abstraction → Lean → Slots → FlatTerms → List Function
-own_function (Operator.function a) t Γ us = record { captured = places (captures 0 t Γ); takes = arity a; body = first_or_type us } ∷ []
+own_function (Operator.function a) t Γ us =
+    record { captured = places (captures 0 t Γ); takes = arity a; body = first_or_type us } ∷ []
 own_function F t Γ us = []
 
 abbrev mutual
@@ -120,19 +123,22 @@ abbrev mutual
   functions n Γ (Tree.node F ts) =
       own_function F (Tree.node F ts) Γ (flats (suc n) (suc n) (waiting F) (binders F) (frame F (Tree.node F ts) Γ) ts)
       ++ evaluated_functions (after_own F n) (waiting F) (binders F) (frame F (Tree.node F ts) Γ) ts
-      ++ waiting_functions (afters (after_own F n) (skip (waiting F) ts)) (waiting F) (binders F) (frame F (Tree.node F ts) Γ) ts
+      ++ waiting_functions (afters (after_own F n) (skip (waiting F) ts)) (waiting F) (binders F)
+      (frame F (Tree.node F ts) Γ) ts
 
   -- those of the components behind the first k
   pub evaluated_functions : ℕ → ℕ → List ℕ → Slots → Leans → List Function
   evaluated_functions n k ns Γ ∅ = []
-  evaluated_functions n zero ns Γ (t ◂ ts) = functions n (bound (first ns) Γ) t ++ evaluated_functions (after n t) zero (rest ns) Γ ts
+  evaluated_functions n zero ns Γ (t ◂ ts) =
+      functions n (bound (first ns) Γ) t ++ evaluated_functions (after n t) zero (rest ns) Γ ts
   evaluated_functions n (suc k) ns Γ (t ◂ ts) = evaluated_functions n k (rest ns) Γ ts
 
   -- those of the first k components
   pub waiting_functions : ℕ → ℕ → List ℕ → Slots → Leans → List Function
   waiting_functions n k ns Γ ∅ = []
   waiting_functions n zero ns Γ (t ◂ ts) = []
-  waiting_functions n (suc k) ns Γ (t ◂ ts) = functions n (bound (first ns) Γ) t ++ waiting_functions (after n t) k (rest ns) Γ ts
+  waiting_functions n (suc k) ns Γ (t ◂ ts) =
+      functions n (bound (first ns) Γ) t ++ waiting_functions (after n t) k (rest ns) Γ ts
 
 -- ---- a whole term's functions from number n on: its own, which captures and takes nothing, and then those in it
 abbrev pub conversion : ℕ → Lean → List Function

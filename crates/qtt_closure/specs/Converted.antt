@@ -7,7 +7,9 @@ use Rattle.qtt_closure.specs.Conversion.{after, bound, flat, functions}
 
 -- a function with number n that has these of the variables around it, and the functions in it
 abbrev pub own_functions : ℕ → ℕ → Slots → Lean → List Function
-own_functions n takes Δ b = record { captured = places Δ; takes = takes; body = flat (suc n) (bound takes Δ) b } ∷ functions (suc n) (bound takes Δ) b
+own_functions n takes Δ b =
+    record { captured = places Δ; takes = takes; body = flat (suc n) (bound takes Δ) b } ∷ functions (suc n)
+    (bound takes Δ) b
 
 -- ---- terms, one behind the other
 abbrev pub all_after : ℕ → List Lean → ℕ

@@ -1,5 +1,6 @@
--- Closure-converted terms. A function stands in a program under its number; in a term stands a closure, which is that number with the
--- captured values. The variables of a function's body are the captured ones, the outermost first, and then the argument if there is one.
+-- Closure-converted terms. A function stands in a program under its number; in a term stands a closure, which is
+-- that number with the captured values. The variables of a function's body are the captured ones, the outermost
+-- first, and then the argument if there is one.
 use Rattle.std.specs.Prelude.{ℕ, ◌+◌, List, [], Option, Some, None, cond, eqb, ◌&&◌}
 use Rattle.qtt_term.specs.Contraction.{chain}
 use Rattle.qtt_erase.specs.Binding.{Tree, ∅, ◌◂◌, ◌◂◂◌, size, push, sub}
@@ -35,7 +36,8 @@ binders = binders_of no_binders
 
 -- the body, with captured values and arguments in the place of its variables
 abbrev pub enter : ℕ → FlatTerms → Function → Option FlatTerm
-enter n vs F = cond (eqb n F.takes && eqb (size vs) (F.captured + n)) (Some (sub binders (push vs Tree.var) F.body)) None
+enter n vs F = cond (eqb n F.takes && eqb (size vs) (F.captured + n))
+    (Some (sub binders (push vs Tree.var) F.body)) None
 
 -- captured values are kept as they are
 abbrev pub closures : Program → Functions Closure

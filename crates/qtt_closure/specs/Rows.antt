@@ -5,7 +5,7 @@ use Rattle.qtt_erase.specs.Binding.{Tree, ∅, ◌◂◌}
 use Rattle.qtt_erase.specs.Operator.{Operator, App, Force, Def, Con}
 use Rattle.qtt_erase.specs.Lean.{Lean}
 use Rattle.qtt_erase.specs.Erasure.{erased_bodies}
-use Rattle.qtt_erase.specs.Programs.{vectors}
+use Rattle.qtt_term.specs.Vectors.{vectors}
 use Rattle.qtt_closure.specs.Flat.{Function}
 use Rattle.qtt_closure.specs.Conversion.{closure_at, conversion}
 
@@ -16,7 +16,8 @@ listed (Some t) = conversion 0 t
 
 pub record ConversionRows : Type 0 where
   pub identity_converted : listed (erased_bodies identity (item 0)) ≡
-      record { captured = 0; takes = 0; body = closure_at 1 ∅ } ∷ record { captured = 0; takes = 1; body = Tree.var 0 } ∷ []
+      record { captured = 0; takes = 0; body = closure_at 1 ∅ } ∷
+      record { captured = 0; takes = 1; body = Tree.var 0 } ∷ []
   -- the inner function captures the first argument
   pub plus_converted : listed (erased_bodies vectors (item 3)) ≡
       record { captured = 0; takes = 0; body = closure_at 1 ∅ }
@@ -24,7 +25,8 @@ pub record ConversionRows : Type 0 where
       ∷ record {
         captured = 1;
         takes = 1;
-        body = Tree.node (Operator.case (0 ∷ 1 ∷ [])) (Tree.var 0 ◂ Con 1 (App (App (Def (item 3)) (Tree.var 0)) (Tree.var 1) ◂ ∅) ◂ Tree.var 1 ◂ ∅);
+        body = Tree.node (Operator.case (0 ∷ 1 ∷ []))
+            (Tree.var 0 ◂ Con 1 (App (App (Def (item 3)) (Tree.var 0)) (Tree.var 1) ◂ ∅) ◂ Tree.var 1 ◂ ∅);
       } ∷ []
   -- three erased arguments, two linear ones, and one function in each branch; the last captures x and then xs
   pub append_converted : listed (erased_bodies vectors (item 7)) ≡
@@ -36,7 +38,8 @@ pub record ConversionRows : Type 0 where
       ∷ record {
         captured = 1;
         takes = 1;
-        body = App (Tree.node (Operator.case (0 ∷ 2 ∷ [])) (closure_at 6 ∅ ◂ closure_at 7 (Tree.var 1 ◂ Tree.var 0 ◂ ∅) ◂ Tree.var 1 ◂ ∅)) (Tree.var 0);
+        body = App (Tree.node (Operator.case (0 ∷ 2 ∷ []))
+            (closure_at 6 ∅ ◂ closure_at 7 (Tree.var 1 ◂ Tree.var 0 ◂ ∅) ◂ Tree.var 1 ◂ ∅)) (Tree.var 0);
       }
       ∷ record { captured = 0; takes = 1; body = Tree.var 0 }
       ∷ record {

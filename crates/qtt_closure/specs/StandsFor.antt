@@ -1,5 +1,5 @@
--- What a flat term of a program stands for: the same term, with functions in the place of closures. A closure stands for its function's
--- body with what the captured values stand for in the place of the captured variables.
+-- What a flat term of a program stands for: the same term, with functions in the place of closures. A closure
+-- stands for its function's body with what the captured values stand for in the place of the captured variables.
 use Rattle.std.specs.Prelude.{◌≡◌, ℕ, suc, List, [], ◌∷◌, Option, Some, None}
 use Rattle.qtt_base.specs.declared.place.GlobalId.{GlobalId}
 use Rattle.qtt_erase.specs.Binding.{Tree, ∅, ◌◂◌, size, push, sub, Below}
@@ -22,13 +22,17 @@ mutual
     operator : {F : Operator Abstraction} {ts : Leans} {us : FlatTerms} → IsOther F → AllStandFor P ts us →
         StandsFor P (Tree.node F ts) (Tree.node (other F) us)
     -- b is the body under the captured variables, and ls are what these stand for
-    closure : {a : Abstraction} {b t : Lean} {ls : Leans} {c : Closure} {F : Function} {vs : FlatTerms} → P c.number ≡ Some F →
-        c.captured ≡ size ls → F.captured ≡ size ls → F.takes ≡ arity a → StandsFor P b F.body → Below binders (size ls) (function_of a b) →
-        AllStandFor P ls vs → t ≡ sub binders (push ls Tree.var) (function_of a b) → StandsFor P t (Tree.node (Operator.function c) vs)
+    closure : {a : Abstraction} {b t : Lean} {ls : Leans} {c : Closure} {F : Function} {vs : FlatTerms} →
+        P c.number ≡ Some F →
+        c.captured ≡ size ls → F.captured ≡ size ls → F.takes ≡ arity a → StandsFor P b F.body →
+        Below binders (size ls) (function_of a b) →
+        AllStandFor P ls vs → t ≡ sub binders (push ls Tree.var) (function_of a b) →
+        StandsFor P t (Tree.node (Operator.function c) vs)
 
   pub data AllStandFor (P : Program) : Leans → FlatTerms → Type 0 where
     none : AllStandFor P ∅ ∅
-    more : {t : Lean} {ts : Leans} {u : FlatTerm} {us : FlatTerms} → StandsFor P t u → AllStandFor P ts us → AllStandFor P (t ◂ ts) (u ◂ us)
+    more : {t : Lean} {ts : Leans} {u : FlatTerm} {us : FlatTerms} → StandsFor P t u → AllStandFor P ts us →
+        AllStandFor P (t ◂ ts) (u ◂ us)
 
 -- each function has one component, its body
 abbrev pub OneBody : Operator Abstraction → Leans → Type 0

@@ -20,7 +20,8 @@ flat_level (FlatTerm-F.App f a) = App f.value a.value
 flat_level (FlatTerm-F.Force f) = Force f.value
 flat_level (FlatTerm-F.Def d) = Def d
 flat_level (FlatTerm-F.Con c ts) = Con c (side_by_side ts.items)
-flat_level (FlatTerm-F.Case s bs) = Tree.node (Operator.case (map (λ b. b.0) bs.items)) (side_by_side (map (λ b. b.1) bs.items) ◂◂ s.value ◂ ∅)
+flat_level (FlatTerm-F.Case s bs) =
+    Tree.node (Operator.case (map (λ b. b.0) bs.items)) (side_by_side (map (λ b. b.1) bs.items) ◂◂ s.value ◂ ∅)
 flat_level (FlatTerm-F.Lit l) = Literal l
 flat_level (FlatTerm-F.Prim p ts) = Call p (side_by_side ts.items)
 flat_level (FlatTerm-F.Act a ts) = Act (action a) (side_by_side ts.items)

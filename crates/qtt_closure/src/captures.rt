@@ -15,14 +15,16 @@ use qtt_base::MemoryError;
 use qtt_erase::{Lean, LeanBranch};
 use std::alloc::Global;
 
-/// Of the variables in scope, the newest first, whether a function that takes so many arguments mentions each in its body.
+/// Of the variables in scope, the newest first, whether a function that takes so many arguments
+/// mentions each in its body.
 pub fn captured_variables(
     alloc: Global,
     scope: &Scope<'_>,
     takes: u32,
     body: &Lean,
 ) -> Result<Vec<bool>, MemoryError>
-    ensures { IfOk result (λ v. slot_list v.items ≡ captures takes (lean body.now) (slots scope.now)) }
+    ensures { IfOk result (λ v. slot_list v.items ≡ captures takes (lean body.now)
+        (slots scope.now)) }
 {
     let mut marks = vec![in alloc; false; scope.count()?]?;
     mark(body, takes as usize, &mut marks)?;
@@ -35,7 +37,8 @@ pub fn captured_values(
     scope: &Scope<'_>,
     captures: &[bool],
 ) -> Result<Vec<FlatTerm>, MemoryError>
-    ensures { IfOk result (λ v. side_by_side (flat_terms v.items) ≡ captured (slot_list captures.now) (place_at (slots scope.now)) ∅) }
+    ensures { IfOk result (λ v. side_by_side (flat_terms v.items) ≡ captured
+        (slot_list captures.now) (place_at (slots scope.now)) ∅) }
 {
     let mut values = Vec::new(alloc);
     for index in (0..captures.len()).rev() {
@@ -47,7 +50,8 @@ pub fn captured_values(
     Ok(values)
 }
 
-/// Marks the variables that a term mentions. The first mark is that of the variable of this number.
+/// Marks the variables that a term mentions. The first mark is that of the variable of this
+/// number.
 #[cycle(mark)]
 #[tactic(auto, using(crate::proofs::Marking::markings))]
 fn mark(source: &Lean, first: usize, marks: &mut [bool]) -> Result<(), MemoryError>
@@ -102,7 +106,8 @@ fn mark_branches(
     first: usize,
     marks: &mut [bool],
 ) -> Result<(), MemoryError>
-    ensures { OnOk result (marks.new ≡ branches_marked first (lean_branches branches.now) marks.old) }
+    ensures { OnOk result (marks.new ≡ branches_marked first
+        (lean_branches branches.now) marks.old) }
 {
     for branch in branches {
         let inner = first

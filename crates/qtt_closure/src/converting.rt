@@ -23,7 +23,8 @@ pub fn convert(alloc: Global, lean: &Lean) -> Result<Flat, MemoryError>
     convert_from(alloc, 0, lean)
 }
 
-/// The functions of a term in which no variable is free, numbered from that number on. Want of memory counts a number of 2^32 too.
+/// The functions of a term in which no variable is free, numbered from that number on. Want of
+/// memory counts a number of 2^32 too.
 pub fn convert_from(alloc: Global, first: u32, lean: &Lean) -> Result<Flat, MemoryError>
     ensures { IfOk result (λ f. functions_of f ≡ conversion first (lean_term lean.now)) }
 {
@@ -43,9 +44,15 @@ fn converted(
     scope: &Scope<'_>,
     source: &Lean,
 ) -> Result<FlatTerm, MemoryError>
-    ensures term { IfOk result (λ u. flat_term u ≡ flat (first + vec_len functions.old) (slots scope.now) (lean_term source.now)) }
-    ensures functions { OnOk result (function_list functions.new.items ≡ function_list functions.old.items ++ functions_in (first + vec_len functions.old) (slots scope.now) (lean_term source.now)) }
-    ensures count { OnOk result (first + vec_len functions.new ≡ after (first + vec_len functions.old) (lean_term source.now)) }
+    ensures term { IfOk result
+        (λ u. flat_term u ≡ flat (first + vec_len functions.old) (slots scope.now)
+        (lean_term source.now)) }
+    ensures functions { OnOk result
+        (function_list functions.new.items ≡ function_list functions.old.items ++ functions_in
+        (first + vec_len functions.old) (slots scope.now) (lean_term source.now)) }
+    ensures count { OnOk result
+        (first + vec_len functions.new ≡ after (first + vec_len functions.old)
+        (lean_term source.now)) }
 {
     match source {
         Lean::Var(index) => Ok(FlatTerm::Var(scope.place(*index as usize) as u32)),
@@ -96,9 +103,17 @@ fn closure(
     takes: u32,
     body: &Lean,
 ) -> Result<FlatTerm, MemoryError>
-    ensures term { IfOk result (λ u. flat_term u ≡ closure_at (first + vec_len functions.old) (captured (captures takes (lean_term body.now) (slots scope.now)) (place_at (slots scope.now)) ∅)) }
-    ensures functions { OnOk result (function_list functions.new.items ≡ function_list functions.old.items ++ own_functions (first + vec_len functions.old) takes (captures takes (lean_term body.now) (slots scope.now)) (lean_term body.now)) }
-    ensures count { OnOk result (first + vec_len functions.new ≡ after (suc (first + vec_len functions.old)) (lean_term body.now)) }
+    ensures term { IfOk result
+        (λ u. flat_term u ≡ closure_at (first + vec_len functions.old)
+        (captured (captures takes (lean_term body.now) (slots scope.now))
+        (place_at (slots scope.now)) ∅)) }
+    ensures functions { OnOk result
+        (function_list functions.new.items ≡ function_list functions.old.items ++ own_functions
+        (first + vec_len functions.old) takes
+        (captures takes (lean_term body.now) (slots scope.now)) (lean_term body.now)) }
+    ensures count { OnOk result
+        (first + vec_len functions.new ≡ after (suc (first + vec_len functions.old))
+        (lean_term body.now)) }
 {
     let place = functions.len();
     let before = u32::try_from(place).map_err(|_| MemoryError)?;
@@ -131,9 +146,15 @@ fn converted_all(
     scope: &Scope<'_>,
     sources: &[Lean],
 ) -> Result<Vec<FlatTerm>, MemoryError>
-    ensures terms { IfOk result (λ v. flat_terms v.items ≡ all_flat (first + vec_len functions.old) (slots scope.now) (leans sources.now)) }
-    ensures functions { OnOk result (function_list functions.new.items ≡ function_list functions.old.items ++ all_functions (first + vec_len functions.old) (slots scope.now) (leans sources.now)) }
-    ensures count { OnOk result (first + vec_len functions.new ≡ all_after (first + vec_len functions.old) (leans sources.now)) }
+    ensures terms { IfOk result
+        (λ v. flat_terms v.items ≡ all_flat (first + vec_len functions.old) (slots scope.now)
+        (leans sources.now)) }
+    ensures functions { OnOk result
+        (function_list functions.new.items ≡ function_list functions.old.items ++ all_functions
+        (first + vec_len functions.old) (slots scope.now) (leans sources.now)) }
+    ensures count { OnOk result
+        (first + vec_len functions.new ≡ all_after (first + vec_len functions.old)
+        (leans sources.now)) }
 {
     let mut terms = Vec::with_capacity(alloc, sources.len())?;
     for source in sources {
@@ -151,9 +172,16 @@ fn converted_branches(
     scope: &Scope<'_>,
     sources: &[LeanBranch],
 ) -> Result<Vec<FlatBranch>, MemoryError>
-    ensures terms { IfOk result (λ v. flat_branches v.items ≡ branches_flat (first + vec_len functions.old) (slots scope.now) (lean_branches sources.now)) }
-    ensures functions { OnOk result (function_list functions.new.items ≡ function_list functions.old.items ++ branches_functions (first + vec_len functions.old) (slots scope.now) (lean_branches sources.now)) }
-    ensures count { OnOk result (first + vec_len functions.new ≡ branches_after (first + vec_len functions.old) (lean_branches sources.now)) }
+    ensures terms { IfOk result
+        (λ v. flat_branches v.items ≡ branches_flat (first + vec_len functions.old)
+        (slots scope.now) (lean_branches sources.now)) }
+    ensures functions { OnOk result
+        (function_list functions.new.items ≡ function_list functions.old.items ++
+        branches_functions (first + vec_len functions.old) (slots scope.now)
+        (lean_branches sources.now)) }
+    ensures count { OnOk result
+        (first + vec_len functions.new ≡ branches_after (first + vec_len functions.old)
+        (lean_branches sources.now)) }
 {
     let mut branches = Vec::with_capacity(alloc, sources.len())?;
     for source in sources {

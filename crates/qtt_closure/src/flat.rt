@@ -3,8 +3,8 @@
 use qtt_base::GlobalId;
 use qtt_prims::{ActKind, Lit, Primitive};
 
-/// A term of a function's body. Variables are de Bruijn indices into what the function captured, the outermost first, then its
-/// argument, then what is bound in the body.
+/// A term of a function's body. Variables are de Bruijn indices into what the function captured,
+/// the outermost first, then its argument, then what is bound in the body.
 #[derive(Debug, Drop)]
 #[cycle(flat)]
 pub enum FlatTerm {
@@ -36,7 +36,8 @@ pub struct FlatBranch {
     pub body: FlatTerm,
 }
 
-/// A function: how many variables it captures, how many arguments it takes, 1 or 0, and its body under all of these.
+/// A function: how many variables it captures, how many arguments it takes, 1 or 0, and its body
+/// under all of these.
 #[derive(Debug, Drop)]
 pub struct Function {
     pub captured: u32,
@@ -44,7 +45,8 @@ pub struct Function {
     pub body: FlatTerm,
 }
 
-/// The functions of a term in the order of their numbers. The first is the term's own: it captures and takes nothing.
+/// The functions of a term in the order of their numbers. The first is the term's own: it
+/// captures and takes nothing.
 #[derive(Debug, Drop)]
 pub struct Flat {
     pub functions: Vec<Function>,

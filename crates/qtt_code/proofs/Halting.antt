@@ -41,7 +41,8 @@ one-fewer b m (Did.goes t) s = s
 one-fewer b m Did.stuck s = s
 
 module _ (P : Program) where
-  one-way : {m n : ℕ} {s r t : State} (b : ℕ) → Reaches P m s r → m ≤ b → IsLast b m (instruction P r) → Reaches P n s t → n ≤ b → IsLast b n (instruction P t) →
+  one-way : {m n : ℕ} {s r t : State} (b : ℕ) → Reaches P m s r → m ≤ b → IsLast b m (instruction P r) →
+      Reaches P n s t → n ≤ b → IsLast b n (instruction P t) →
       (m ≡ n) × (r ≡ t)
   one-way b Reaches.here p l Reaches.here q k = (refl, refl)
   one-way b Reaches.here p l (Reaches.goes h y) q k = absurd (subst (IsLast b 0) h l)
@@ -54,14 +55,17 @@ module _ (P : Program) where
   one-way b (Reaches.ticks h x) p l (Reaches.goes g y) q k = absurd (cc (h, g))
   one-way b (Reaches.ticks {n = m} {t = u} {r = r} h x) p l (Reaches.ticks {n = n} {t = v} {r = t} g y) q k =
       let w = one-way (b - 1) x (omega (arith, p)) (one-fewer b m (instruction P r) l)
-      (subst (λ s. Reaches P n s t) (sym (ap (λ d. state_of d u) (sym h ∙ g))) y) (omega (arith, q)) (one-fewer b n (instruction P t) k) in
+      (subst (λ s. Reaches P n s t) (sym (ap (λ d. state_of d u) (sym h ∙ g))) y) (omega (arith, q))
+      (one-fewer b n (instruction P t) k) in
       (ap suc w.0, w.1)
 
 pub halts-are-unique : HaltsAreUnique
 halts-are-unique P b s h k x y =
-    let w = one-way P b x.way x.within (stops-last b x.made (instruction P x.last) h x.stops) y.way y.within (stops-last b y.made (instruction P y.last) k y.stops) in (
+    let w = one-way P b x.way x.within (stops-last b x.made (instruction P x.last) h x.stops) y.way y.within
+    (stops-last b y.made (instruction P y.last) k y.stops) in (
       one-halt b x.made (instruction P x.last) h k x.stops
-          (subst (λ r. Stops b x.made (instruction P r) k) (sym w.1) (subst (λ m. Stops b m (instruction P y.last) k) (sym w.0) y.stops)),
+          (subst (λ r. Stops b x.made (instruction P r) k) (sym w.1)
+          (subst (λ m. Stops b m (instruction P y.last) k) (sym w.0) y.stops)),
       w.0,
       w.1,
     )

@@ -16,13 +16,16 @@ machine_rows_hold = record {
   identity_is_spent = record {
     made = 3;
     last = _;
-    way = Reaches.ticks refl (Reaches.ticks refl (Reaches.goes refl (Reaches.goes refl (Reaches.goes refl (Reaches.ticks refl (Reaches.goes refl (Reaches.goes refl Reaches.here)))))));
+    way = Reaches.ticks refl (Reaches.ticks refl
+        (Reaches.goes refl (Reaches.goes refl
+        (Reaches.goes refl (Reaches.ticks refl (Reaches.goes refl (Reaches.goes refl Reaches.here)))))));
     within = omega arith;
     stops = (refl, refl);
   };
   branch_ends = (
     _,
-    Reaches.ticks refl (Reaches.goes refl (Reaches.goes refl (Reaches.goes refl (Reaches.ticks refl (Reaches.goes refl (Reaches.goes refl
+    Reaches.ticks refl (Reaches.goes refl
+        (Reaches.goes refl (Reaches.goes refl (Reaches.ticks refl (Reaches.goes refl (Reaches.goes refl
         (Reaches.goes refl (Reaches.ticks refl Reaches.here)))))))),
     refl,
   );
@@ -32,7 +35,8 @@ machine_rows_hold = record {
   loop_is_spent = record {
     made = 5;
     last = _;
-    way = Reaches.ticks refl (Reaches.ticks refl (Reaches.ticks refl (Reaches.ticks refl (Reaches.ticks refl Reaches.here))));
+    way = Reaches.ticks refl (Reaches.ticks refl
+        (Reaches.ticks refl (Reaches.ticks refl (Reaches.ticks refl Reaches.here))));
     within = omega arith;
     stops = (refl, refl);
   };

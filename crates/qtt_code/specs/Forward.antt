@@ -1,4 +1,5 @@
--- Code whose jumps go to later places: what runs it makes a tick, comes back from a block or ends after finitely many instructions.
+-- Code whose jumps go to later places: what runs it makes a tick, comes back from a block or ends after finitely
+-- many instructions.
 use Rattle.std.specs.Prelude.{◌≡◌, ℕ, ◌<◌, List, Some, slice_get}
 use Rattle.qtt_code.specs.Instruction.{Instr, Block, Program}
 

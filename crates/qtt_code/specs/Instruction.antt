@@ -1,5 +1,5 @@
--- Instructions, blocks and programs. A frame has what its block's closure captured and locals; local 0 is the argument where the block
--- takes one. Places count from 0 in a block.
+-- Instructions, blocks and programs. A frame has what its block's closure captured and locals; local 0 is the
+-- argument where the block takes one. Places count from 0 in a block.
 use Rattle.std.specs.Prelude.{ℕ, List}
 use Rattle.qtt_base.specs.declared.place.GlobalId.{GlobalId}
 use Rattle.qtt_prims.specs.declared.prim.Primitive.{Primitive}
@@ -37,7 +37,8 @@ pub data Instr : Type 0 where
   -- traps
   trap : Instr
 
--- the definition that a block is of, how many values its closure captures, how many arguments it takes, 0 or 1, and its instructions
+-- the definition that a block is of, how many values its closure captures, how many arguments it takes, 0 or 1,
+-- and its instructions
 pub record Block : Type 0 where
   pub owner : GlobalId
   pub captured : ℕ

@@ -1,5 +1,5 @@
--- The listing of a program. For each block the line `block B OWNER captured C takes T`, then its instructions, each with two blanks before
--- it; an owner that the names don't have is `_`.
+-- The listing of a program. For each block the line `block B OWNER captured C takes T`, then its instructions,
+-- each with two blanks before it; an owner that the names don't have is `_`.
 use Rattle.std.specs.Prelude.{ℕ, suc, List, [], ◌∷◌, ◌++◌, flat_map, cond, eqb, Option, Some, None, codes, decimal}
 use Rattle.std.specs.Fmt.{signed_decimal}
 use Rattle.qtt_base.specs.declared.place.GlobalId.{GlobalId}
@@ -87,7 +87,8 @@ instr_line i = line (codes "  " ++ instr_text i)
 
 abbrev pub block_text : List DefinitionEntry → ℕ → Block → List ℕ
 block_text names b B =
-    codes "block" ++ next_number b ++ codes " " ++ owner_name names B.owner ++ codes " captured" ++ next_number B.captured ++ codes " takes" ++ next_number B.takes
+    codes "block" ++ next_number b ++ codes " " ++ owner_name names B.owner ++ codes " captured" ++ next_number
+    B.captured ++ codes " takes" ++ next_number B.takes
 
 abbrev pub block_lines : List DefinitionEntry → ℕ → Block → List ℕ
 block_lines names b B = line (block_text names b B) ++ flat_map instr_line B.code

@@ -11,8 +11,8 @@ use Rattle.qtt_term.specs.FullStep.{Cause}
 use Rattle.qtt_code.specs.Value.{Value, Values, ◌▹◌, listed}
 use Rattle.qtt_code.specs.Instruction.{Position, Instr, Block, Program}
 
--- a block's instructions and the place of the next one; the captured values and the locals, the oldest first; and what was pushed, the
--- newest first
+-- a block's instructions and the place of the next one; the captured values and the locals, the oldest first; and
+-- what was pushed, the newest first
 pub record Frame : Type 0 where
   pub code : List Instr
   pub place : ℕ
@@ -85,10 +85,12 @@ suspended Position.tail f fs = fs
 
 abbrev pub enters : Position → Option Block → List Value → List Value → State → Did
 enters o None captured locals s = Did.stuck
-enters o (Some B) captured locals s = Did.ticks (record { frame = begin B captured locals; waiting = suspended o s.frame s.waiting })
+enters o (Some B) captured locals s =
+    Did.ticks (record { frame = begin B captured locals; waiting = suspended o s.frame s.waiting })
 
 abbrev pub calls : Program → Position → List Value → State → Did
-calls P o (a ∷ Value.closure b vs ∷ left) s = enters o (slice_get P b) (listed vs) (a ∷ []) (in_frame (left_with left s.frame) s)
+calls P o (a ∷ Value.closure b vs ∷ left) s =
+    enters o (slice_get P b) (listed vs) (a ∷ []) (in_frame (left_with left s.frame) s)
 calls P o _ s = Did.stuck
 
 abbrev pub forces : Program → Position → List Value → State → Did
@@ -129,7 +131,8 @@ computes p (Some t) s = applies p (literals t.values) t.left s
 -- ---- branches
 abbrev pub branches : Option ℕ → Values → List Value → State → Did
 branches None vs left s = Did.stuck
-branches (Some q) vs left s = Did.ticks (in_frame (moved q (with_locals (s.frame.locals ++ listed vs) (left_with left s.frame))) s)
+branches (Some q) vs left s =
+    Did.ticks (in_frame (moved q (with_locals (s.frame.locals ++ listed vs) (left_with left s.frame))) s)
 
 abbrev pub switches : List ℕ → List Value → State → Did
 switches qs (Value.con c vs ∷ left) s = branches (slice_get qs c) vs left s
@@ -159,7 +162,8 @@ does P (Some (Instr.force o)) s = forces P o s.frame.pushed s
 does P (Some (Instr.enter o b)) s = enters o (slice_get P b) [] [] s
 does P (Some (Instr.prim p)) s = computes p (taken (arity p) Values.none s.frame.pushed) s
 does P (Some (Instr.switch qs)) s = switches qs s.frame.pushed s
-does P (Some (Instr.leave k)) s = Did.goes (in_frame (onward (with_locals (take (length s.frame.locals - k) s.frame.locals) s.frame)) s)
+does P (Some (Instr.leave k)) s =
+    Did.goes (in_frame (onward (with_locals (take (length s.frame.locals - k) s.frame.locals) s.frame)) s)
 does P (Some (Instr.jump q)) s = Did.goes (in_frame (moved q s.frame) s)
 does P (Some Instr.return) s = returns s.frame.pushed s.waiting
 does P (Some Instr.trap) s = Did.traps Cause.missing_clause
@@ -196,7 +200,8 @@ pub record Advances (P : Program) (bound : ℕ) (s : State) (h : Halt) : Type 0 
 
 -- ---- where a run begins: a definition's block is entered, or a function is called at an argument
 abbrev pub alone : List Instr → List Value → State
-alone code pushed = record { frame = record { code = code; place = 0; captured = []; locals = []; pushed = pushed }; waiting = [] }
+alone code pushed = record
+    { frame = record { code = code; place = 0; captured = []; locals = []; pushed = pushed }; waiting = [] }
 
 abbrev pub start : ℕ → State
 start b = alone (Instr.enter Position.tail b ∷ []) []

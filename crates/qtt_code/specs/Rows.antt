@@ -58,12 +58,20 @@ dividing = plain 0 (int 1 ∷ int 0 ∷ Instr.prim prim.DivInt ∷ Instr.return 
 -- a function that captured a value and one that awaits nothing
 abbrev pub capturing : Program
 capturing =
-    record { owner = item 0; captured = 1; takes = 1; code = Instr.captured 0 ∷ Instr.local 0 ∷ Instr.prim prim.SubInt ∷ Instr.return ∷ [] }
-    ∷ plain 0 (Instr.trap ∷ []) ∷ plain 0 (Instr.closure 1 0 ∷ Instr.force Position.tail ∷ []) ∷ plain 0 (Instr.enter Position.tail 3 ∷ []) ∷ []
+    record {
+      owner = item 0;
+      captured = 1;
+      takes = 1;
+      code = Instr.captured 0 ∷ Instr.local 0 ∷
+          Instr.prim prim.SubInt ∷ Instr.return ∷ [];
+    }
+    ∷ plain 0 (Instr.trap ∷ []) ∷ plain 0 (Instr.closure 1 0 ∷ Instr.force Position.tail ∷ []) ∷
+    plain 0 (Instr.enter Position.tail 3 ∷ []) ∷ []
 
 pub record MachineRows : Type 0 where
   -- the definitions main and id, the call and the primitive are a tick each
-  pub identity_ends : EndsAfter identity 4 (start 2) (Value.action Action.put_line (Value.literal (lit.Text (codes "3")) ▹ Values.none))
+  pub identity_ends : EndsAfter identity 4 (start 2)
+      (Value.action Action.put_line (Value.literal (lit.Text (codes "3")) ▹ Values.none))
   pub identity_is_spent : Advances identity 3 (start 2) Halt.spent
   pub branch_ends : EndsAfter branching 3 (start 0) (number 6)
   pub division_traps : TrapsAfter dividing 1 (start 0) Cause.division_by_zero

@@ -13,9 +13,11 @@ use qtt_prims::{ActKind, Primitive};
 use qtt_term::globals::Globals;
 use std::alloc::Global;
 
-/// For each block a line that names it, and then a line for each instruction. The owner is `_` where `names` has no such definition.
+/// For each block a line that names it, and then a line for each instruction. The owner is `_`
+/// where `names` has no such definition.
 pub fn listing(alloc: Global, program: &Program, names: &Globals) -> Result<Vec<u8>, MemoryError>
-    ensures { IfOk result (λ text. text.items ≡ listing_of (definitions_of names.now) (program_of program.now)) }
+    ensures { IfOk result (λ text. text.items ≡ listing_of (definitions_of names.now)
+        (program_of program.now)) }
 {
     let mut text = Vec::new(alloc);
     for (number, block) in program.blocks.iter().enumerate() {
@@ -40,7 +42,8 @@ fn block_lines(
     number: usize,
     block: &Block,
 ) -> Result<Vec<u8>, MemoryError>
-    ensures { IfOk result (λ text. text.items ≡ lines_of_block (definitions_of names.now) number (block_of block.now)) }
+    ensures { IfOk result (λ text. text.items ≡ lines_of_block (definitions_of names.now) number
+        (block_of block.now)) }
 {
     let mut text = heading(alloc, names, number, block)?;
     for instr in &block.code {
@@ -56,7 +59,8 @@ fn heading(
     number: usize,
     block: &Block,
 ) -> Result<Vec<u8>, MemoryError>
-    ensures { IfOk result (λ text. text.items ≡ line (block_text (definitions_of names.now) number (block_of block.now))) }
+    ensures { IfOk result (λ text. text.items ≡ line
+        (block_text (definitions_of names.now) number (block_of block.now))) }
 {
     let owner = owner_name(names, block.owner);
     let captured = block.captured;
@@ -121,13 +125,15 @@ fn numbered_twice(
     first: u32,
     second: u32,
 ) -> Result<Vec<u8>, MemoryError>
-    ensures { IfOk result (λ text. text.items ≡ words.now ++ next_number first ++ next_number second) }
+    ensures { IfOk result (λ text. text.items ≡ words.now ++ next_number first ++ next_number
+        second) }
 {
     Ok(format!(in alloc; "{words} {first} {second}")?.into_bytes())
 }
 
 fn action_text(alloc: Global, kind: ActKind, count: u32) -> Result<Vec<u8>, MemoryError>
-    ensures { IfOk result (λ text. text.items ≡ codes "action " ++ action_name kind ++ next_number count) }
+    ensures { IfOk result (λ text. text.items ≡ codes "action " ++ action_name kind ++
+        next_number count) }
 {
     let name = kind.name();
     Ok(format!(in alloc; "action {name} {count}")?.into_bytes())

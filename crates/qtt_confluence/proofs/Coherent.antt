@@ -17,7 +17,8 @@ use Rattle.qtt_confluence.proofs.Root.{ScrutineeAt, BranchAt, Picks, Root, view,
 use Rattle.qtt_confluence.proofs.Parallel.{Rule, Par, Pars, Stable, Coherent, par-refl, par-sub}
 
 -- ---- stable
-scrutinee-sub : {ns : List ℕ} {ts : Terms} {s : Term} → ScrutineeAt ns ts s → (σ : ℕ → Term) → ScrutineeAt ns (subs ns σ ts) (sub σ s)
+scrutinee-sub : {ns : List ℕ} {ts : Terms} {s : Term} → ScrutineeAt ns ts s →
+    (σ : ℕ → Term) → ScrutineeAt ns (subs ns σ ts) (sub σ s)
 scrutinee-sub ScrutineeAt.end σ = ScrutineeAt.end
 scrutinee-sub (ScrutineeAt.later h) σ = ScrutineeAt.later (scrutinee-sub h σ)
 
@@ -61,15 +62,18 @@ answer-closed answer.IllTyped t e σ = absurd (none≢some e)
 root-sub : {E : Env} {F : Form} {ts : Terms} {t : Term} → BodiesClosed E → Root E F ts t → (σ : ℕ → Term) →
     Root E F (subs (binders F) σ ts) (sub σ t)
 root-sub closed (Root.by_beta {b = b} {a = a}) σ = rw (inst-sub σ b a) Root.by_beta
-root-sub {E} closed (Root.by_iota {q = q} {f = f} {k = k} {l = l} {m = m} {n = n} {ns = ns} {ts = ts} {xs = xs} {b = b} h e) σ =
+root-sub {E} closed (Root.by_iota {q = q} {f = f} {k = k} {l = l} {m = m} {n = n} {ns = ns} {ts = ts} {xs = xs}
+    {b = b} h e) σ =
     rw (fill-sub σ (skip l xs) n b e)
-    (subst (λ fs. Root E (Form.case q f k m ns) (subs (zeros k (m ∷ ns)) σ ts) (sub (push fs var) (sub (lifts n σ) b))) (skip-sub l xs σ)
+    (subst (λ fs. Root E (Form.case q f k m ns) (subs (zeros k (m ∷ ns)) σ ts)
+    (sub (push fs var) (sub (lifts n σ) b))) (skip-sub l xs σ)
     (Root.by_iota (picks-sub m h σ) (ap size (skip-sub l xs σ) ∙ subs-size (skip l xs) [] σ ∙ e)))
 root-sub closed Root.by_deletion σ = Root.by_deletion
 root-sub {E} closed (Root.by_delta {d = d} {b = b} e) σ =
     subst (Root E (Form.named (Named.def d)) ε) (sym (closed-kept b (closed d b e) σ)) (Root.by_delta e)
 root-sub {E} closed (Root.by_prim {p = p} {ts = ts} {ls = ls} {t = t} d e) σ =
-    subst (Root E (Form.named (Named.prim p)) (subs [] σ ts)) (sym (answer-closed (apply p ls) t e σ)) (Root.by_prim (literals-sub σ ts ls d) e)
+    subst (Root E (Form.named (Named.prim p)) (subs [] σ ts)) (sym (answer-closed (apply p ls) t e σ))
+    (Root.by_prim (literals-sub σ ts ls d) e)
 
 pub stable : (E : Env) → BodiesClosed E → Stable (contract E)
 stable E closed σ F ts t e = contracts (root-sub closed (view E F ts t e) σ)
@@ -108,19 +112,38 @@ record Kept (c : Rule) (At : Term → Term → Type 0) (b s : Term) : Type 0 whe
 branch-par : {c : Rule} {x n : ℕ} {ns : List ℕ} {ts ss : Terms} {b s : Term} → BranchAt x ns ts n b s → Pars c ts ss →
     Kept c (BranchAt x ns ss n) b s
 branch-par (BranchAt.here k) (Pars.pcell {s = d} h hs) =
-    let r = scrutinee-par k hs in record { body = d; scrutinee = r.0; at = BranchAt.here r.1; par_body = h; par_scrutinee = r.2 }
+    let r = scrutinee-par k hs in
+    record { body = d; scrutinee = r.0; at = BranchAt.here r.1; par_body = h; par_scrutinee = r.2 }
 branch-par (BranchAt.later k) (Pars.pcell h hs) =
     let r = branch-par k hs in
-    record { body = r.body; scrutinee = r.scrutinee; at = BranchAt.later r.at; par_body = r.par_body; par_scrutinee = r.par_scrutinee }
+    record {
+      body = r.body;
+      scrutinee = r.scrutinee;
+      at = BranchAt.later r.at;
+      par_body = r.par_body;
+      par_scrutinee = r.par_scrutinee;
+    }
 
 picks-par : {c : Rule} {x k n : ℕ} {ns : List ℕ} {ts ss : Terms} {b s : Term} → Picks x k ns ts n b s → Pars c ts ss →
     Kept c (Picks x k ns ss n) b s
 picks-par (Picks.motive k) (Pars.pcell h hs) =
     let r = branch-par k hs in
-    record { body = r.body; scrutinee = r.scrutinee; at = Picks.motive r.at; par_body = r.par_body; par_scrutinee = r.par_scrutinee }
+    record {
+      body = r.body;
+      scrutinee = r.scrutinee;
+      at = Picks.motive r.at;
+      par_body = r.par_body;
+      par_scrutinee = r.par_scrutinee;
+    }
 picks-par (Picks.param k) (Pars.pcell h hs) =
     let r = picks-par k hs in
-    record { body = r.body; scrutinee = r.scrutinee; at = Picks.param r.at; par_body = r.par_body; par_scrutinee = r.par_scrutinee }
+    record {
+      body = r.body;
+      scrutinee = r.scrutinee;
+      at = Picks.param r.at;
+      par_body = r.par_body;
+      par_scrutinee = r.par_scrutinee;
+    }
 
 pub as_lit-par : (E : Env) (t s : Term) (l : Lit) → Par (contract E) t s → as_lit t ≡ Some l → as_lit s ≡ Some l
 unfolding contract
@@ -128,7 +151,8 @@ as_lit-par E t s l (Par.pnode {F = Form.named (Named.lit k)} Pars.pnil) g = g
 as_lit-par E t s l (Par.proot {F = Form.named (Named.lit k)} hs h) g = absurd (none≢some h)
 as_lit-par E t s l _ g = absurd (none≢some g)
 
-literals-par : (E : Env) (ts ss : Terms) (ls : List Lit) → Pars (contract E) ts ss → literals ts ≡ Some ls → literals ss ≡ Some ls
+literals-par : (E : Env) (ts ss : Terms) (ls : List Lit) → Pars (contract E) ts ss → literals ts ≡ Some ls →
+    literals ss ≡ Some ls
 literals-par E ts ss ls Pars.pnil g = g
 literals-par E ts ss ls (Pars.pcell {t = t} {s = s} {ts = ts'} {ss = ss'} h hs) g =
     let r = chain-some (as_lit t) (λ l. chain (literals ts') (λ ls. Some (l ∷ ls))) ls g in
@@ -145,19 +169,23 @@ unfolding contract
 con-par E (Par.pnode {ss = ys} h) = (ys, refl, h)
 con-par E (Par.proot h e) = absurd (none≢some e)
 
-lam-par : (E : Env) {q : Mult} {A b s : Term} → Par (contract E) (Lam q A b) s → (C : Term) × (d : Term) × (s ≡ Lam q C d) × Par (contract E) b d
+lam-par : (E : Env) {q : Mult} {A b s : Term} → Par (contract E) (Lam q A b) s →
+    (C : Term) × (d : Term) × (s ≡ Lam q C d) × Par (contract E) b d
 unfolding contract
 lam-par E (Par.pnode (Pars.pcell {s = C} hA (Pars.pcell {s = d} hb Pars.pnil))) = (C, d, refl, hb)
 lam-par E (Par.proot h e) = absurd (none≢some e)
 
-root-par : {E : Env} {F : Form} {ts ss : Terms} {t : Term} → BodiesClosed E → Root E F ts t → Pars (contract E) ts ss → Follows E F ss t
+root-par : {E : Env} {F : Form} {ts ss : Terms} {t : Term} → BodiesClosed E → Root E F ts t →
+    Pars (contract E) ts ss → Follows E F ss t
 root-par {E} closed (Root.by_beta {q = q} {b = b} {a = a}) (Pars.pcell {s = g} h (Pars.pcell {s = a'} ha Pars.pnil)) =
     let r = lam-par E h in (
       inst r.1 a',
       contracts (subst (λ g. Root E (Form.app q) (g ▸ a' ▸ ε) (inst r.1 a')) (sym r.2) Root.by_beta),
-      par-sub (contract E) (stable E closed) (cons a var) (cons a' var) (pars-push (Pars.pcell ha Pars.pnil) var var (λ i. Par.pvar)) r.3,
+      par-sub (contract E) (stable E closed) (cons a var) (cons a' var)
+          (pars-push (Pars.pcell ha Pars.pnil) var var (λ i. Par.pvar)) r.3,
     )
-root-par {E} closed (Root.by_iota {f = f} {c = c} {k = k} {l = l} {n = n} {ns = ns} {ts = ts} {xs = xs} {b = b} h e) hs =
+root-par {E} closed (Root.by_iota {f = f} {c = c} {k = k} {l = l} {n = n} {ns = ns} {ts = ts} {xs = xs} {b = b} h
+    e) hs =
     let r = picks-par h hs in
     let s = con-par E r.par_scrutinee in (
       sub (push (skip l s.0) var) r.body,
@@ -165,7 +193,9 @@ root-par {E} closed (Root.by_iota {f = f} {c = c} {k = k} {l = l} {n = n} {ns = 
       par-sub (contract E) (stable E closed) (push (skip l xs) var) (push (skip l s.0) var)
           (pars-push (pars-skip l s.2) var var (λ i. Par.pvar)) r.par_body,
     )
-root-par {E} closed (Root.by_deletion {q = q}) (Pars.pcell {s = A} hA (Pars.pcell {s = s} hs (Pars.pcell {s = P} hP (Pars.pcell {s = b} hb (Pars.pcell {s = e} he Pars.pnil))))) =
+root-par {E} closed (Root.by_deletion {q = q})
+    (Pars.pcell {s = A} hA
+    (Pars.pcell {s = s} hs (Pars.pcell {s = P} hP (Pars.pcell {s = b} hb (Pars.pcell {s = e} he Pars.pnil))))) =
     let r = con-par E he in
     (b, contracts (subst (λ e. Root E (Form.delete q) (A ▸ s ▸ P ▸ b ▸ e ▸ ε) b) (sym r.1) Root.by_deletion), hb)
 root-par {E} closed (Root.by_delta {b = b} e) Pars.pnil = (b, contracts (Root.by_delta e), par-refl (contract E) b)

@@ -33,20 +33,25 @@ asked-steps E (Form.named (Named.prim p)) ts ss one more h = more h
 asked-steps E (Form.named (Named.def d)) ts ss one more h = absurd (none≢some h)
 asked-steps E (Form.named (Named.lit l)) ts ss one more h = absurd (none≢some h)
 asked-steps E (Form.named (Named.prim_ty t)) ts ss one more h = absurd (none≢some h)
-asked-steps E (Form.named (Named.act a)) ts ss one more h = absurd (none≢some h)
+asked-steps E (Form.named (Named.act a k)) ts ss one more h = absurd (none≢some h)
 asked-steps E _ ts ss one more h = absurd (none≢some h)
 
-node-step : (E : Env) (F : Form) (ts : Terms) (s : Term) (o : Option Terms) → (contract E F ts ≡ Some s) ⊎ (wrap (node F) o ≡ Some s) →
+node-step : (E : Env) (F : Form) (ts : Terms) (s : Term) (o : Option Terms) →
+    (contract E F ts ≡ Some s) ⊎ (wrap (node F) o ≡ Some s) →
     ((ss : Terms) → o ≡ Some ss → Steps E ts ss) → Step E (node F ts) s
 node-step E F ts s o (inl r) k = Step.here r
-node-step E F ts s o (inr r) k = let w = wrap-some (node F) o s r in subst (Step E (node F ts)) w.2 (Step.inside (k w.0 w.1))
+node-step E F ts s o (inr r) k = let w =
+    wrap-some (node F) o s r in subst (Step E (node F ts)) w.2 (Step.inside (k w.0 w.1))
 
-argument-steps : (E : Env) (t : Term) (ts ss : Terms) (o : Option Lit) → argument_step o t ts (head_step E t) (arguments_step E ts) ≡ Some ss →
-    ((s : Term) → head_step E t ≡ Some s → Step E t s) → ((rs : Terms) → arguments_step E ts ≡ Some rs → Steps E ts rs) → Steps E (t ▸ ts) ss
+argument-steps : (E : Env) (t : Term) (ts ss : Terms) (o : Option Lit) →
+    argument_step o t ts (head_step E t) (arguments_step E ts) ≡ Some ss →
+    ((s : Term) → head_step E t ≡ Some s → Step E t s) →
+    ((rs : Terms) → arguments_step E ts ≡ Some rs → Steps E ts rs) → Steps E (t ▸ ts) ss
 argument-steps E t ts ss None r one more =
     let w = wrap-some (λ s. s ▸ ts) (head_step E t) ss r in subst (Steps E (t ▸ ts)) w.2 (Steps.at (one w.0 w.1))
 argument-steps E t ts ss (Some l) r one more =
-    let w = wrap-some (λ ss. t ▸ ss) (arguments_step E ts) ss r in subst (Steps E (t ▸ ts)) w.2 (Steps.after (more w.0 w.1))
+    let w = wrap-some (λ ss. t ▸ ss) (arguments_step E ts) ss r in subst (Steps E (t ▸ ts)) w.2
+    (Steps.after (more w.0 w.1))
 
 mutual
   pub head-steps : (E : Env) (t s : Term) → head_step E t ≡ Some s → Step E t s
@@ -59,13 +64,16 @@ mutual
   at-steps : (E : Env) (ts ss : Terms) (n : ℕ) → step_at E ts n ≡ Some ss → Steps E ts ss
   at-steps E ε ss n h = absurd (none≢some h)
   at-steps E (t ▸ ts) ss zero h =
-      let w = wrap-some (λ s. s ▸ ts) (head_step E t) ss h in subst (Steps E (t ▸ ts)) w.2 (Steps.at (head-steps E t w.0 w.1))
+      let w = wrap-some (λ s. s ▸ ts) (head_step E t) ss h in subst (Steps E (t ▸ ts)) w.2
+      (Steps.at (head-steps E t w.0 w.1))
   at-steps E (t ▸ ts) ss (suc n) h =
-      let w = wrap-some (λ ss. t ▸ ss) (step_at E ts n) ss h in subst (Steps E (t ▸ ts)) w.2 (Steps.after (at-steps E ts w.0 n w.1))
+      let w = wrap-some (λ ss. t ▸ ss) (step_at E ts n) ss h in subst (Steps E (t ▸ ts)) w.2
+      (Steps.after (at-steps E ts w.0 n w.1))
 
   args-steps : (E : Env) (ts ss : Terms) → arguments_step E ts ≡ Some ss → Steps E ts ss
   args-steps E ε ss h = absurd (none≢some h)
-  args-steps E (t ▸ ts) ss h = argument-steps E t ts ss (as_lit t) h (λ s k. head-steps E t s k) (λ rs k. args-steps E ts rs k)
+  args-steps E (t ▸ ts) ss h =
+      argument-steps E t ts ss (as_lit t) h (λ s k. head-steps E t s k) (λ rs k. args-steps E ts rs k)
 
 -- ---- heads that are convertible are so in each component
 data Within (E : Env) : Term → Term → Type 0 where
@@ -142,7 +150,8 @@ cond-holds : (E : Env) (b : Bool) (x y : Move) → Holds E x → Holds E y → H
 cond-holds E true x y h k = h
 cond-holds E false x y h k = k
 
-of_heads-holds : (E : Env) → BodiesClosed E → (a b : Option Term) (i : Item) → head_step E i.left ≡ a → head_step E i.right ≡ b →
+of_heads-holds : (E : Env) → BodiesClosed E → (a b : Option Term) (i : Item) → head_step E i.left ≡ a →
+    head_step E i.right ≡ b →
     Conv E i.left i.right → Holds E (of_heads a b i)
 of_heads-holds E bodies (Some t) b i h k c = Conv.thence (Conv.back (Conv.by_step (head-steps E i.left t h))) c
 of_heads-holds E bodies None (Some s) i h k c = Conv.thence c (Conv.by_step (head-steps E i.right s k))
@@ -153,44 +162,54 @@ of_heads-holds E bodies None None i h k c =
 
 move-holds : (E : Env) → BodiesClosed E → (i : Item) → Conv E i.left i.right → Holds E (move E i)
 move-holds E bodies i c =
-    cond-holds E (not i.tested && same i.left i.right) (Move.splits []) (of_heads (head_step E i.left) (head_step E i.right) i) tt
+    cond-holds E (not i.tested && same i.left i.right) (Move.splits [])
+    (of_heads (head_step E i.left) (head_step E i.right) i) tt
     (of_heads-holds E bodies (head_step E i.left) (head_step E i.right) i refl refl c)
 
 abbrev NeverDiffers : Env → (List Item → Answer) → Type 0
 NeverDiffers E g = (is : List Item) → AllConv E is → (p : List ℕ) → g is ≡ Answer.different p → ⊥
 
-follow-holds : (E : Env) (x : Move) (i : Item) (is : List Item) (again next : List Item → Answer) → Holds E x → AllConv E is →
+follow-holds : (E : Env) (x : Move) (i : Item) (is : List Item) (again next : List Item → Answer) → Holds E x →
+    AllConv E is →
     NeverDiffers E again → NeverDiffers E next →
     (p : List ℕ) → follow x i is again next ≡ Answer.different p → ⊥
 follow-holds E (Move.splits js) i is again next h hs r n p d = r (js ++ is) (all-append E js is h hs) p d
 follow-holds E (Move.contracts j) i is again next h hs r n p d = n (j ∷ is) (h, hs) p d
 follow-holds E Move.differs i is again next h hs r n p d = absurd h
 
-answer-holds : (E : Env) → BodiesClosed E → (next : List Item → Answer) → NeverDiffers E next → (s : ℕ) → NeverDiffers E (answer E next s)
+answer-holds : (E : Env) → BodiesClosed E → (next : List Item → Answer) → NeverDiffers E next →
+    (s : ℕ) → NeverDiffers E (answer E next s)
 answer-holds E bodies next n s [] h p d = cc d
 answer-holds E bodies next n zero (i ∷ is) h p d = cc d
 answer-holds E bodies next n (suc s) (i ∷ is) h p d =
-    follow-holds E (move E i) i is (λ js. answer E next s js) next (move-holds E bodies i h.0) h.1 (answer-holds E bodies next n s) n p d
+    follow-holds E (move E i) i is (λ js. answer E next s js) next (move-holds E bodies i h.0) h.1
+    (answer-holds E bodies next n s) n p d
 
 within-holds : (E : Env) → BodiesClosed E → (n : ℕ) → NeverDiffers E (within_count E n)
-within-holds E bodies zero is h p d = answer-holds E bodies (λ js. Answer.spent) (λ js k q e. cc e) (weight_of is) is h p d
-within-holds E bodies (suc n) is h p d = answer-holds E bodies (within_count E n) (within-holds E bodies n) (weight_of is) is h p d
+within-holds E bodies zero is h p d =
+    answer-holds E bodies (λ js. Answer.spent) (λ js k q e. cc e) (weight_of is) is h p d
+within-holds E bodies (suc n) is h p d =
+    answer-holds E bodies (within_count E n) (within-holds E bodies n) (weight_of is) is h p d
 
-pub apart : (E : Env) → BodiesClosed E → (n : ℕ) (t s : Term) (p : List ℕ) → compare E n t s ≡ Answer.different p → Conv E t s → ⊥
+pub apart : (E : Env) → BodiesClosed E → (n : ℕ) (t s : Term) (p : List ℕ) →
+    compare E n t s ≡ Answer.different p → Conv E t s → ⊥
 apart E bodies n t s p d c = within-holds E bodies n _ (c, tt) p d
 
 -- ---- where the answer is Equal
-beside-convs : (E : Env) (path : List ℕ) (k : ℕ) (ts ss : Terms) → size ts ≡ size ss → AllConv E (beside path k ts ss) → Convs E ts ss
+beside-convs : (E : Env) (path : List ℕ) (k : ℕ) (ts ss : Terms) → size ts ≡ size ss →
+    AllConv E (beside path k ts ss) → Convs E ts ss
 beside-convs E path k ε ε e h = Convs.none
 beside-convs E path k (t ▸ ts) (s ▸ ss) e h = Convs.more h.0 (beside-convs E path (suc k) ts ss (cc e) h.1)
 beside-convs E path k ε (s ▸ ss) e h = absurd (cc e)
 beside-convs E path k (t ▸ ts) ε e h = absurd (cc e)
 
-components-conv-back : (E : Env) (path : List ℕ) (t s : Term) → same_outline t s ≡ true → AllConv E (components path t s) → Conv E t s
+components-conv-back : (E : Env) (path : List ℕ) (t s : Term) → same_outline t s ≡ true →
+    AllConv E (components path t s) → Conv E t s
 components-conv-back E path (var i) (var j) e h = subst (λ s. Conv E (var i) s) (ap var (eqb-true i j e)) Conv.same
 components-conv-back E path (node F ts) (node G ss) e h =
     let a = and_parts (same_form F G) (eqb (size ts) (size ss)) e in
-    subst (λ G. Conv E (node F ts) (node G ss)) (form-is F G a.0) (conv-inside (beside-convs E path 0 ts ss (eqb-true (size ts) (size ss) a.1) h))
+    subst (λ G. Conv E (node F ts) (node G ss)) (form-is F G a.0)
+    (conv-inside (beside-convs E path 0 ts ss (eqb-true (size ts) (size ss) a.1) h))
 components-conv-back E path (var i) (node G ss) e h = absurd (cc e)
 components-conv-back E path (node F ts) (var j) e h = absurd (cc e)
 
@@ -205,7 +224,8 @@ outline-leaves : (E : Env) (i : Item) (b : Bool) → same_outline i.left i.right
 outline-leaves E i true e = λ h. components-conv-back E i.path i.left i.right e h
 outline-leaves E i false e = tt
 
-of_heads-leaves : (E : Env) (a b : Option Term) (i : Item) → head_step E i.left ≡ a → head_step E i.right ≡ b → Leaves E i (of_heads a b i)
+of_heads-leaves : (E : Env) (a b : Option Term) (i : Item) → head_step E i.left ≡ a → head_step E i.right ≡ b →
+    Leaves E i (of_heads a b i)
 of_heads-leaves E (Some t) b i h k = λ c. Conv.thence (Conv.by_step (head-steps E i.left t h)) c
 of_heads-leaves E None (Some s) i h k = λ c. Conv.thence c (Conv.back (Conv.by_step (head-steps E i.right s k)))
 of_heads-leaves E None None i h k = outline-leaves E i (same_outline i.left i.right) refl
@@ -228,7 +248,8 @@ all-front E (i ∷ is) js h = let r = all-front E is js h.1 in ((h.0, r.0), r.1)
 abbrev Proves : Env → (List Item → Answer) → Type 0
 Proves E g = (is : List Item) → g is ≡ Answer.equal → AllConv E is
 
-follow-proves : (E : Env) (x : Move) (i : Item) (is : List Item) (again next : List Item → Answer) → Leaves E i x → Proves E again →
+follow-proves : (E : Env) (x : Move) (i : Item) (is : List Item) (again next : List Item → Answer) →
+    Leaves E i x → Proves E again →
     Proves E next →
     follow x i is again next ≡ Answer.equal → AllConv E (i ∷ is)
 follow-proves E (Move.splits js) i is again next h r n d = let a = all-front E js is (r (js ++ is) d) in (h a.0, a.1)

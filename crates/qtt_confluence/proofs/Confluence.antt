@@ -92,13 +92,15 @@ convs-thence (Convs.more h hs) (Convs.more k ks) = Convs.more (Conv.thence h k) 
 abbrev Put : (Term → Terms) → Type 0
 Put C = (E : Env) (t s : Term) → Step E t s → Steps E (C t) (C s)
 
-conv-put : {E : Env} (F : Form) (C : Term → Terms) → Put C → {t s : Term} → Conv E t s → Conv E (node F (C t)) (node F (C s))
+conv-put : {E : Env} (F : Form) (C : Term → Terms) → Put C → {t s : Term} → Conv E t s →
+    Conv E (node F (C t)) (node F (C s))
 conv-put F C p Conv.same = Conv.same
 conv-put {E} F C p (Conv.by_step h) = Conv.by_step (Step.inside (p E _ _ h))
 conv-put F C p (Conv.back h) = Conv.back (conv-put F C p h)
 conv-put F C p (Conv.thence h k) = Conv.thence (conv-put F C p h) (conv-put F C p k)
 
-convs-put : {E : Env} (F : Form) (C : Terms → Terms) → ((E : Env) (ts ss : Terms) → Steps E ts ss → Steps E (C ts) (C ss)) →
+convs-put : {E : Env} (F : Form) (C : Terms → Terms) →
+    ((E : Env) (ts ss : Terms) → Steps E ts ss → Steps E (C ts) (C ss)) →
     {ts ss : Terms} → Convs E ts ss → Conv E (node F (C ts)) (node F (C ss))
 convs-put F C p Convs.none = Conv.same
 convs-put F C p (Convs.more {t = t} {s = s} {ts = ts} {ss = ss} h hs) =
@@ -114,7 +116,8 @@ mutual
   step-sub {E} closed (Step.here {F = F} {ts = ts} {t = t} e) σ = Step.here (stable E closed σ F ts t e)
   step-sub closed (Step.inside {F = F} h) σ = Step.inside (steps-sub closed h (binders F) σ)
 
-  steps-sub : {E : Env} {ts ss : Terms} → BodiesClosed E → Steps E ts ss → (ns : List ℕ) (σ : ℕ → Term) → Steps E (subs ns σ ts) (subs ns σ ss)
+  steps-sub : {E : Env} {ts ss : Terms} → BodiesClosed E → Steps E ts ss →
+      (ns : List ℕ) (σ : ℕ → Term) → Steps E (subs ns σ ts) (subs ns σ ss)
   steps-sub closed (Steps.at h) ns σ = Steps.at (step-sub closed h (lifts (first ns) σ))
   steps-sub closed (Steps.after h) ns σ = Steps.after (steps-sub closed h (rest ns) σ)
 
@@ -161,19 +164,24 @@ terms_of (var i) = ε
 terms_of (node F ts) = ts
 
 -- convertible terms whose forms never contract have one form, and convertible components
-pub stiff-nodes : {E : Env} {F G : Form} {ts ss : Terms} → BodiesClosed E → Stiff E F → Stiff E G → Conv E (node F ts) (node G ss) →
+pub stiff-nodes : {E : Env} {F G : Form} {ts ss : Terms} → BodiesClosed E → Stiff E F → Stiff E G →
+    Conv E (node F ts) (node G ss) →
     (F ≡ G) × Convs E ts ss
 unfolding form_of terms_of
 stiff-nodes {E} {F} {G} {ts} {ss} closed f g h =
     let m = conv-meet closed h in
     let a = stiff-many f m.1 ts refl in
-    let b = stiff-many g m.2 ss refl in
-    (ap form_of (sym a.1 ∙ b.1), convs-thence a.2 (subst (λ rs. Convs E rs ss) (sym (ap terms_of (sym a.1 ∙ b.1))) (convs-back b.2)))
+    let b = stiff-many g m.2 ss refl in (
+      ap form_of (sym a.1 ∙ b.1),
+      convs-thence a.2 (subst (λ rs. Convs E rs ss) (sym (ap terms_of (sym a.1 ∙ b.1))) (convs-back b.2)),
+    )
 
 -- ---- convertible terms, for the variables
-conv-lift : {E : Env} → BodiesClosed E → (σ τ : ℕ → Term) → ((i : ℕ) → Conv E (σ i) (τ i)) → (i : ℕ) → Conv E (lift σ i) (lift τ i)
+conv-lift : {E : Env} → BodiesClosed E → (σ τ : ℕ → Term) → ((i : ℕ) → Conv E (σ i) (τ i)) →
+    (i : ℕ) → Conv E (lift σ i) (lift τ i)
 conv-lift closed σ τ h zero = Conv.same
-conv-lift closed σ τ h (suc i) = rw (ren-is-sub suc (σ i), ren-is-sub suc (τ i)) (conv-sub closed (h i) (λ j. var (suc j)))
+conv-lift closed σ τ h (suc i) =
+    rw (ren-is-sub suc (σ i), ren-is-sub suc (τ i)) (conv-sub closed (h i) (λ j. var (suc j)))
 
 conv-lifts : {E : Env} → BodiesClosed E → (n : ℕ) (σ τ : ℕ → Term) → ((i : ℕ) → Conv E (σ i) (τ i)) → (i : ℕ) →
     Conv E (lifts n σ i) (lifts n τ i)
@@ -181,11 +189,13 @@ conv-lifts closed zero σ τ h = h
 conv-lifts closed (suc n) σ τ h = conv-lifts closed n (lift σ) (lift τ) (conv-lift closed σ τ h)
 
 mutual
-  pub conv-fill : {E : Env} → BodiesClosed E → (t : Term) (σ τ : ℕ → Term) → ((i : ℕ) → Conv E (σ i) (τ i)) → Conv E (sub σ t) (sub τ t)
+  pub conv-fill : {E : Env} → BodiesClosed E → (t : Term) (σ τ : ℕ → Term) →
+      ((i : ℕ) → Conv E (σ i) (τ i)) → Conv E (sub σ t) (sub τ t)
   conv-fill closed (var i) σ τ h = h i
   conv-fill closed (node F ts) σ τ h = conv-inside (convs-fill closed ts (binders F) σ τ h)
 
-  pub convs-fill : {E : Env} → BodiesClosed E → (ts : Terms) (ns : List ℕ) (σ τ : ℕ → Term) → ((i : ℕ) → Conv E (σ i) (τ i)) →
+  pub convs-fill : {E : Env} → BodiesClosed E → (ts : Terms) (ns : List ℕ) (σ τ : ℕ → Term) →
+      ((i : ℕ) → Conv E (σ i) (τ i)) →
       Convs E (subs ns σ ts) (subs ns τ ts)
   convs-fill closed ε ns σ τ h = Convs.none
   convs-fill closed (t ▸ ts) ns σ τ h =
@@ -200,7 +210,8 @@ conv-inst {E} closed {a} {b} B h = conv-fill closed B (cons a var) (cons b var) 
     go (suc i) = Conv.same
 
 -- convertible terms, pushed
-pub push-conv : {E : Env} {ts ss : Terms} → Convs E ts ss → (σ τ : ℕ → Term) → ((i : ℕ) → Conv E (σ i) (τ i)) → (i : ℕ) →
+pub push-conv : {E : Env} {ts ss : Terms} → Convs E ts ss → (σ τ : ℕ → Term) → ((i : ℕ) → Conv E (σ i) (τ i)) →
+    (i : ℕ) →
     Conv E (push ts σ i) (push ss τ i)
 push-conv Convs.none σ τ h = h
 push-conv {E} (Convs.more {t = t} {s = s} c k) σ τ h = push-conv k (cons t σ) (cons s τ) go

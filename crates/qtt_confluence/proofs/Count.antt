@@ -1,4 +1,5 @@
--- The count of contractions alone limits a comparison: what is done between two contractions takes from the weight of the left terms.
+-- The count of contractions alone limits a comparison: what is done between two contractions takes from the
+-- weight of the left terms.
 use Rattle.std.proofs.Common.{◌≡◌, ◌≢◌, ℕ, zero, suc, ◌+◌, ◌≤◌, ◌<◌, List, [], ◌∷◌, ◌++◌, refl, sym, subst, Option, Some, None, Bool, true, false, cond, not, ◌&&◌, arith}
 use Rattle.qtt_term.specs.Term.{Term, Terms, var, node, ε, ◌▸◌}
 use Rattle.qtt_term.specs.Signature.{Env}
@@ -13,7 +14,8 @@ weight-positive (node F ts) = omega arith
 
 pub weight-append : (is js : List Item) → weight_of (is ++ js) ≡ weight_of is + weight_of js
 weight-append [] js = omega arith
-weight-append (i ∷ is) js = let e : weight_of (is ++ js) ≡ weight_of is + weight_of js = weight-append is js in omega arith
+weight-append (i ∷ is) js = let e : weight_of (is ++ js) ≡ weight_of is + weight_of js =
+    weight-append is js in omega arith
 
 pub beside-light : (path : List ℕ) (k : ℕ) (ts ss : Terms) → weight_of (beside path k ts ss) ≤ weights ts
 beside-light path k ε ss = omega arith
@@ -24,7 +26,8 @@ beside-light path k (t ▸ ts) (s ▸ ss) =
 components-light : (path : List ℕ) (t s : Term) → weight_of (components path t s) < weight t
 components-light path (var i) s = omega arith
 components-light path (node F ts) (var j) = omega arith
-components-light path (node F ts) (node G ss) = let h : weight_of (beside path 0 ts ss) ≤ weights ts = beside-light path 0 ts ss in omega arith
+components-light path (node F ts) (node G ss) = let h : weight_of (beside path 0 ts ss) ≤ weights ts =
+    beside-light path 0 ts ss in omega arith
 
 -- items that an item gives way to weigh less
 abbrev Lighter : Item → Move → Type 0
@@ -44,11 +47,13 @@ of_heads-lighter None None i =
 
 move-lighter : (E : Env) (i : Item) → Lighter i (move E i)
 move-lighter E i =
-    cond-lighter i (not i.tested && same i.left i.right) (Move.splits []) (of_heads (head_step E i.left) (head_step E i.right) i)
+    cond-lighter i (not i.tested && same i.left i.right) (Move.splits [])
+    (of_heads (head_step E i.left) (head_step E i.right) i)
     (weight-positive i.left) (of_heads-lighter (head_step E i.left) (head_step E i.right) i)
 
 -- ---- what is answered is compared
-follow-compared : (E : Env) (n : ℕ) (i : Item) (is : List Item) (again next : List Item → Answer) (m : Move) → move E i ≡ m → Lighter i m →
+follow-compared : (E : Env) (n : ℕ) (i : Item) (is : List Item) (again next : List Item → Answer) (m : Move) →
+    move E i ≡ m → Lighter i m →
     ((js : List Item) → weight_of js < weight i.left → Compared E n (js ++ is) (again (js ++ is))) →
     ((j : Item) → move E i ≡ Move.contracts j → Compared E n (i ∷ is) (next (j ∷ is))) →
     Compared E n (i ∷ is) (follow m i is again next)
@@ -71,7 +76,8 @@ pub within-compared : (E : Env) (n : ℕ) (is : List Item) → Compared E n is (
 within-compared E zero is =
     answer-compared E zero (λ js. Answer.spent) (λ i j is e. Compared.none_left e) (weight_of is) is (omega arith)
 within-compared E (suc n) is =
-    answer-compared E (suc n) (within_count E n) (λ i j is e. Compared.contract e (within-compared E n (j ∷ is))) (weight_of is) is (omega arith)
+    answer-compared E (suc n) (within_count E n) (λ i j is e. Compared.contract e (within-compared E n (j ∷ is)))
+    (weight_of is) is (omega arith)
 
 -- ---- items are compared in one way
 abbrev AfterContraction : Env → ℕ → List Item → Answer → Type 0
@@ -83,7 +89,8 @@ After E n i is a (Move.splits js) = Compared E n (js ++ is) a
 After E n i is a (Move.contracts j) = AfterContraction E n (j ∷ is) a
 After E n i is a Move.differs = a ≡ Answer.different i.path
 
-after : {E : Env} {n : ℕ} {i : Item} {is : List Item} {a : Answer} → Compared E n (i ∷ is) a → After E n i is a (move E i)
+after : {E : Env} {n : ℕ} {i : Item} {is : List Item} {a : Answer} → Compared E n (i ∷ is) a →
+    After E n i is a (move E i)
 after {E} {n} {i} {is} {a} (Compared.split e h) = subst (After E n i is a) (sym e) h
 after {E} {n} {i} {is} {a} (Compared.contract e h) = subst (After E n i is a) (sym e) h
 after {E} {n} {i} {is} {a} (Compared.none_left e) = subst (After E n i is a) (sym e) refl
@@ -92,15 +99,18 @@ after {E} {n} {i} {is} {a} (Compared.differ e) = subst (After E n i is a) (sym e
 after-none : {E : Env} {n : ℕ} {a : Answer} → Compared E n [] a → a ≡ Answer.equal
 after-none Compared.all_equal = refl
 
-one-answer : {E : Env} {n : ℕ} {is : List Item} {a b : Answer} → Compared E n is a → Compared E n is b → a ≡ b
+pub one-answer : {E : Env} {n : ℕ} {is : List Item} {a b : Answer} → Compared E n is a → Compared E n is b → a ≡ b
 one-answer Compared.all_equal k = sym (after-none k)
-one-answer {E} {n} {b = b} (Compared.split {i = i} {is = is} e h) k = one-answer h (subst (After E n i is b) e (after k))
-one-answer {E} {b = b} (Compared.contract {n = n} {i = i} {is = is} e h) k = one-answer h (subst (After E (suc n) i is b) e (after k))
+one-answer {E} {n} {b = b} (Compared.split {i = i} {is = is} e h) k =
+    one-answer h (subst (After E n i is b) e (after k))
+one-answer {E} {b = b} (Compared.contract {n = n} {i = i} {is = is} e h) k =
+    one-answer h (subst (After E (suc n) i is b) e (after k))
 one-answer {E} {b = b} (Compared.none_left {i = i} {is = is} e) k = sym (subst (After E zero i is b) e (after k))
 one-answer {E} {n} {b = b} (Compared.differ {i = i} {is = is} e) k = sym (subst (After E n i is b) e (after k))
 
 -- ---- an answer stands under a greater count
-more : {E : Env} {n : ℕ} {is : List Item} {a : Answer} → Compared E n is a → a ≢ Answer.spent → (m : ℕ) → n ≤ m → Compared E m is a
+more : {E : Env} {n : ℕ} {is : List Item} {a : Answer} → Compared E n is a → a ≢ Answer.spent →
+    (m : ℕ) → n ≤ m → Compared E m is a
 more Compared.all_equal s m l = Compared.all_equal
 more (Compared.split e h) s m l = Compared.split e (more h s m l)
 more (Compared.contract e h) s zero l = absurd (omega arith)
@@ -110,6 +120,9 @@ more (Compared.differ e) s m l = Compared.differ e
 
 pub count-alone_limits : CountAloneLimits
 count-alone_limits = record {
-  exact = λ E n is a. (λ e. subst (Compared E n is) e (within-compared E n is), λ h. one-answer (within-compared E n is) h);
+  exact = λ E n is a. (
+    λ e. subst (Compared E n is) e (within-compared E n is),
+    λ h. one-answer (within-compared E n is) h,
+  );
   stands = λ E n m t s l d. one-answer (within-compared E m _) (more (within-compared E n _) d m l);
 }

@@ -1,10 +1,11 @@
 -- The laws that the functions of this crate ensure.
-use Rattle.qtt_confluence.specs.Laws.{ContractionIsConfluent, TypesAreInjective, RigidHeadsDiffer, ConvertibleHeadsAgree, HeadIsExact, CountAloneLimits, EqualIsConvertible, DifferentIsApart, DefinitionsTell}
+use Rattle.qtt_confluence.specs.Laws.{ContractionIsConfluent, TypesAreInjective, RigidHeadsDiffer, ConvertibleHeadsAgree, HeadIsExact, CountAloneLimits, ComparesByRecursion, EqualIsConvertible, DifferentIsApart, DefinitionsTell}
 use Rattle.qtt_confluence.proofs.Confluence.{confluence}
 use Rattle.qtt_confluence.proofs.Injective.{injective}
 use Rattle.qtt_confluence.proofs.Compare.{agree, apart, convertible}
 use Rattle.qtt_confluence.proofs.HeadCount.{head-is_exact}
 use Rattle.qtt_confluence.proofs.Count.{count-alone_limits}
+use Rattle.qtt_confluence.proofs.Recursion.{compares-by_recursion}
 use Rattle.qtt_confluence.proofs.Examples.{definitions-tell}
 
 pub contraction_is_confluent : ContractionIsConfluent
@@ -24,6 +25,9 @@ head_is_exact = head-is_exact
 
 pub count_alone_limits : CountAloneLimits
 count_alone_limits = count-alone_limits
+
+pub compares_by_recursion : ComparesByRecursion
+compares_by_recursion = compares-by_recursion
 
 pub equal_is_convertible : EqualIsConvertible
 equal_is_convertible E n t s e = convertible E n t s e

@@ -1,4 +1,5 @@
--- A constructor whose result is convertible to its family at some indices: parameters and indices are convertible.
+-- A constructor whose result is convertible to its family at some indices: parameters and indices are
+-- convertible.
 use Rattle.std.proofs.Common.{◌≡◌, ℕ, zero, suc, ◌+◌, List, [], ◌∷◌, length, ◌++◌, refl, sym, ◌∙◌, ap, subst, arith}
 use mathlib.Core.Path.{ap₂, subst₂}
 use Rattle.qtt_base.specs.declared.place.GlobalId.{GlobalId}
@@ -16,19 +17,23 @@ use Rattle.qtt_confluence.proofs.Injective.{fam_injective}
 -- parameters, the substitution of them, and what follows
 pub data Split : Tele → (ℕ → Term) → Terms → (ℕ → Term) → Terms → Type 0 where
   done : {σ : ℕ → Term} {ts : Terms} → Split [] σ ts σ ts
-  skip : {b : Mult × Term} {Θ : Tele} {σ τ : ℕ → Term} {a : Term} {ts rs : Terms} → Split Θ (cons a σ) ts τ rs → Split (b ∷ Θ) σ (a ▸ ts) τ rs
+  skip : {b : Mult × Term} {Θ : Tele} {σ τ : ℕ → Term} {a : Term} {ts rs : Terms} → Split Θ (cons a σ) ts τ rs →
+      Split (b ∷ Θ) σ (a ▸ ts) τ rs
 
--- a constructor's Con of parameters and fields, whose result is the family at these parameters, has convertible parameters, and
--- what the motive is taken at is convertible to indices and Con
+-- a constructor's Con of parameters and fields, whose result is the family at these parameters, has convertible
+-- parameters, and what the motive is taken at is convertible to indices and Con
 abbrev pub FamilyInjective : Env → Type 0
 FamilyInjective E =
     (f : GlobalId) (c : ℕ) (k : ConSig) → IsCon (fam_at E f).constructors c k →
     (xs fs : Terms) (τ : ℕ → Term) → Split (fam_at E f).params closed xs τ fs →
     (ts rs : Terms) (π : ℕ → Term) → Split (fam_at E f).params closed ts π rs →
-    size fs ≡ length k.fields → (is : Terms) → size (is +++ (node (Form.con f c (length (fam_at E f).params)) xs ▸ ε)) ≡ length (fam_at E f).motive →
+    size fs ≡ length k.fields →
+    (is : Terms) → size (is +++ (node (Form.con f c (length (fam_at E f).params)) xs ▸ ε)) ≡ length
+    (fam_at E f).motive →
     Conv E (sub (push fs τ) k.result) (sub (push is π) (fam_at E f).self) →
     ((i : ℕ) → Conv E (τ i) (π i))
-    × ((i : ℕ) → Conv E (push (subs [] (push fs τ) k.targets) var i) (push (is +++ (node (Form.con f c (length (fam_at E f).params)) xs ▸ ε)) var i))
+    × ((i : ℕ) → Conv E (push (subs [] (push fs τ) k.targets) var i)
+    (push (is +++ (node (Form.con f c (length (fam_at E f).params)) xs ▸ ε)) var i))
 
 -- a substitution's terms for the newest variables, the outermost first
 abbrev listing : (ℕ → Term) → ℕ → ℕ → Terms
@@ -51,7 +56,8 @@ listing-ext σ τ m n (suc k) h = ap₂ ◌▸◌ (h k) (listing-ext σ τ m n k
 listing-push : (ts : Terms) (σ : ℕ → Term) → listing (push ts σ) 0 (size ts) ≡ ts
 listing-push ε σ = refl
 listing-push (t ▸ ts) σ =
-    ap₂ ◌▸◌ (ap (push ts (cons t σ)) (sym (shift-zero (size ts))) ∙ push-shift ts (cons t σ) 0) (listing-push ts (cons t σ))
+    ap₂ ◌▸◌ (ap (push ts (cons t σ)) (sym (shift-zero (size ts))) ∙ push-shift ts (cons t σ) 0)
+    (listing-push ts (cons t σ))
 
 listing-below : (ts : Terms) (σ : ℕ → Term) (k : ℕ) → listing (push ts σ) (size ts) k ≡ listing σ 0 k
 listing-below ts σ k = listing-ext (push ts σ) σ (size ts) 0 k (λ i. push-shift ts σ i)
@@ -66,9 +72,11 @@ pub record Splits (Θ : Tele) (σ : ℕ → Term) (ts : Terms) (τ : ℕ → Ter
 pub split-is : {Θ : Tele} {σ τ : ℕ → Term} {ts rs : Terms} → Split Θ σ ts τ rs → Splits Θ σ ts τ rs
 split-is Split.done = record { taken = ε; is = refl; sized = refl; whole = refl }
 split-is (Split.skip {a = a} h) =
-    let r = split-is h in record { taken = a ▸ r.taken; is = r.is; sized = ap suc r.sized; whole = ap (λ ts. a ▸ ts) r.whole }
+    let r = split-is h in record
+    { taken = a ▸ r.taken; is = r.is; sized = ap suc r.sized; whole = ap (λ ts. a ▸ ts) r.whole }
 
-pub convs-split : {E : Env} (ts ss : Terms) {rs qs : Terms} → size ts ≡ size ss → Convs E (ts +++ rs) (ss +++ qs) → Convs E ts ss × Convs E rs qs
+pub convs-split : {E : Env} (ts ss : Terms) {rs qs : Terms} → size ts ≡ size ss →
+    Convs E (ts +++ rs) (ss +++ qs) → Convs E ts ss × Convs E rs qs
 convs-split ε ε e h = (Convs.none, h)
 convs-split ε (s ▸ ss) e h = absurd (cc e)
 convs-split (t ▸ ts) ε e h = absurd (cc e)
@@ -95,11 +103,14 @@ is_con-sig f k (d ∷ ds) n c s IsCon.here = (d, ap (λ m. con_sig f k m d) (ome
 is_con-sig f k (d ∷ ds) n c s (IsCon.there {n = e} h) =
     let r = is_con-sig f k ds (suc n) e s h in (r.0, r.1 ∙ ap (λ m. con_sig f k m r.0) (omega arith))
 
-pub params-are : {Θ : Tele} {ts rs : Terms} {τ : ℕ → Term} (r : Splits Θ closed ts τ rs) (fs : Terms) (n : ℕ) → size fs ≡ n →
+pub params-are : {Θ : Tele} {ts rs : Terms} {τ : ℕ → Term} (r : Splits Θ closed ts τ rs) (fs : Terms) (n : ℕ) →
+    size fs ≡ n →
     subs [] (push fs τ) (above n (length Θ)) ≡ r.taken
 params-are {Θ} {τ = τ} r fs n z =
-    above-sub (push fs τ) n (length Θ) ∙ ap (λ m. listing (push fs τ) m (length Θ)) (sym z) ∙ listing-below fs τ (length Θ)
-    ∙ ap (λ σ. listing σ 0 (length Θ)) r.is ∙ ap (listing (push r.taken closed) 0) (sym r.sized) ∙ listing-push r.taken closed
+    above-sub (push fs τ) n (length Θ) ∙ ap (λ m. listing (push fs τ) m (length Θ)) (sym z) ∙ listing-below fs τ
+    (length Θ)
+    ∙ ap (λ σ. listing σ 0 (length Θ)) r.is ∙ ap (listing (push r.taken closed) 0) (sym r.sized) ∙
+    listing-push r.taken closed
 
 pub newest-are : (fs : Terms) (τ : ℕ → Term) (n : ℕ) → size fs ≡ n → subs [] (push fs τ) (above 0 n) ≡ fs
 newest-are fs τ n z = above-sub (push fs τ) 0 n ∙ ap (listing (push fs τ) 0) (sym z) ∙ listing-push fs τ
@@ -107,13 +118,15 @@ newest-are fs τ n z = above-sub (push fs τ) 0 n ∙ ap (listing (push fs τ) 0
 abbrev Same : Env → GlobalId → ℕ → ConSig → (ℕ → Term) → (ℕ → Term) → Terms → Terms → Terms → Type 0
 Same E f c k τ π xs fs is =
     ((i : ℕ) → Conv E (τ i) (π i))
-    × ((i : ℕ) → Conv E (push (subs [] (push fs τ) k.targets) var i) (push (is +++ (node (Form.con f c (length (fam_at E f).params)) xs ▸ ε)) var i))
+    × ((i : ℕ) → Conv E (push (subs [] (push fs τ) k.targets) var i)
+    (push (is +++ (node (Form.con f c (length (fam_at E f).params)) xs ▸ ε)) var i))
 
 families_at : (E : Env) → BodiesClosed E → (f : GlobalId) (c : ℕ) (d : Constructor) (xs fs : Terms) (τ : ℕ → Term) →
     Splits (family_at E f).params closed xs τ fs →
     (ts rs : Terms) (π : ℕ → Term) → Splits (family_at E f).params closed ts π rs → size fs ≡ length d.fields →
     (is : Terms) → size is ≡ length (family_at E f).indices →
-    Conv E (sub (push fs τ) (con_sig f (length (family_at E f).params) c d).result) (sub (push is π) (self_of f (family_at E f))) →
+    Conv E (sub (push fs τ) (con_sig f (length (family_at E f).params) c d).result)
+    (sub (push is π) (self_of f (family_at E f))) →
     Same E f c (con_sig f (length (family_at E f).params) c d) τ π xs fs is
 families_at E bodies f c d xs fs τ a ts rs π b z is y h = (first_part, second_part)
   where
@@ -136,23 +149,29 @@ families_at E bodies f c d xs fs τ a ts rs π b z is y h = (first_part, second_
     right = subs-append (above x k) (above 0 x) (push is π) ∙ ap₂ ◌+++◌ (params-are b is x y) (newest-are is π x y)
 
     parts : Convs E a.taken b.taken × Convs E R is
-    parts = convs-split a.taken b.taken (a.sized ∙ sym b.sized) (subst₂ (Convs E) left right (fam_injective E bodies f f _ _ h).1)
+    parts = convs-split a.taken b.taken (a.sized ∙ sym b.sized)
+        (subst₂ (Convs E) left right (fam_injective E bodies f f _ _ h).1)
 
     first_part : (i : ℕ) → Conv E (τ i) (π i)
-    first_part i = subst₂ (λ σ ρ. Conv E (σ i) (ρ i)) (sym a.is) (sym b.is) (push-conv parts.0 closed closed (λ i. Conv.same) i)
+    first_part i = subst₂ (λ σ ρ. Conv E (σ i) (ρ i)) (sym a.is) (sym b.is)
+        (push-conv parts.0 closed closed (λ i. Conv.same) i)
 
     made : subs [] (push fs τ) (above n k +++ above 0 n) ≡ xs
-    made = subs-append (above n k) (above 0 n) (push fs τ) ∙ ap₂ ◌+++◌ (params-are a fs n z) (newest-are fs τ n z) ∙ sym a.whole
+    made = subs-append (above n k) (above 0 n) (push fs τ) ∙ ap₂ ◌+++◌ (params-are a fs n z)
+        (newest-are fs τ n z) ∙ sym a.whole
 
     targets : subs [] (push fs τ) (con_sig f k c d).targets ≡ R +++ (node (Form.con f c k) xs ▸ ε)
     targets = subs-append d.results _ (push fs τ) ∙ ap (λ ts. R +++ (node (Form.con f c k) ts ▸ ε)) made
 
     second_part : (i : ℕ) →
-        Conv E (push (subs [] (push fs τ) (con_sig f k c d).targets) var i) (push (is +++ (node (Form.con f c k) xs ▸ ε)) var i)
-    second_part i = subst (λ ts. Conv E (push ts var i) (push (is +++ (node (Form.con f c k) xs ▸ ε)) var i)) (sym targets)
+        Conv E (push (subs [] (push fs τ) (con_sig f k c d).targets) var i)
+        (push (is +++ (node (Form.con f c k) xs ▸ ε)) var i)
+    second_part i = subst (λ ts. Conv E (push ts var i) (push (is +++ (node (Form.con f c k) xs ▸ ε)) var i))
+        (sym targets)
         (push-conv (convs-append parts.1 (convs-same (node (Form.con f c k) xs ▸ ε))) var var (λ i. Conv.same) i)
 
-size-indices : (is : Terms) (s : Term) (Ξ : Tele) (b : Mult × Term) → size (is +++ (s ▸ ε)) ≡ length (Ξ ++ b ∷ []) → size is ≡ length Ξ
+size-indices : (is : Terms) (s : Term) (Ξ : Tele) (b : Mult × Term) →
+    size (is +++ (s ▸ ε)) ≡ length (Ξ ++ b ∷ []) → size is ≡ length Ξ
 size-indices is s Ξ b e =
     let d : size (is +++ (s ▸ ε)) ≡ size is + size (s ▸ ε) = size-append is (s ▸ ε) in
     let g : length (Ξ ++ b ∷ []) ≡ length Ξ + length (b ∷ []) = length-append Ξ (b ∷ []) in

@@ -13,7 +13,8 @@ from-head : (E : Env) (n made : ℕ) (t : Term) → IsHead E t → head_from E n
 from-head E zero made t h = rw (h, head_from) refl
 from-head E (suc n) made t h = rw (h, head_from) refl
 
-from-found : (E : Env) (n made k : ℕ) (t h : Term) → Toward E k t h → IsHead E h → k ≤ n → head_from E n made t ≡ Head.done h (made + k)
+from-found : (E : Env) (n made k : ℕ) (t h : Term) → Toward E k t h → IsHead E h → k ≤ n →
+    head_from E n made t ≡ Head.done h (made + k)
 from-found E n made k t h Toward.here p l = from-head E n made t p ∙ ap (Head.done t) (omega arith)
 from-found E zero made k t h (Toward.onward d w) p l = absurd (omega arith)
 from-found E (suc n) made k t h (Toward.onward {n = j} {s = s} d w) p l =
@@ -35,7 +36,8 @@ ends-after : (E : Env) (n : ℕ) (t s : Term) → head_step E t ≡ Some s → E
 ends-after E n t s d (inl (k, h, w, p, l)) = inl (suc k, h, Toward.onward d w, p, omega arith)
 ends-after E n t s d (inr (r, w)) = inr (r, Toward.onward d w)
 
-ends-later : (E : Env) (n : ℕ) (t : Term) (o : Option Term) → head_step E t ≡ o → ((s : Term) → Ends E n s) → Ends E (suc n) t
+ends-later : (E : Env) (n : ℕ) (t : Term) (o : Option Term) → head_step E t ≡ o →
+    ((s : Term) → Ends E n s) → Ends E (suc n) t
 ends-later E n t None e later = inl (0, t, Toward.here, e, omega arith)
 ends-later E n t (Some s) e later = ends-after E n t s e (later s)
 

@@ -22,7 +22,7 @@ rigid-stiff E (Form.named (Named.def d)) r ts = absurd r
 rigid-stiff E (Form.named (Named.lit l)) r ts = refl
 rigid-stiff E (Form.named (Named.prim_ty p)) r ts = refl
 rigid-stiff E (Form.named (Named.prim p)) r ts = absurd r
-rigid-stiff E (Form.named (Named.act a)) r ts = refl
+rigid-stiff E (Form.named (Named.act a k)) r ts = refl
 rigid-stiff E Form.trap r ts = refl
 rigid-stiff E (Form.tape n) r ts = refl
 
@@ -89,11 +89,13 @@ module _ (E : Env) (bodies : BodiesClosed E) where
 
   pub prim_ty_injective : PrimTyInjective E
   prim_ty_injective p r ts ss h =
-      let s = rigid_injective E bodies (Form.named (Named.prim_ty p)) (Form.named (Named.prim_ty r)) ts ss tt tt h in (prim_ty-of s.0, s.1)
+      let s = rigid_injective E bodies (Form.named (Named.prim_ty p)) (Form.named (Named.prim_ty r)) ts ss tt tt h
+      in (prim_ty-of s.0, s.1)
 
   pub io_injective : IoInjective E
   io_injective m n A B h =
-      let s = rigid_injective E bodies (Form.named (Named.prim_ty (PrimTy.io_of m))) (Form.named (Named.prim_ty (PrimTy.io_of n))) _ _ tt tt h in
+      let s = rigid_injective E bodies (Form.named (Named.prim_ty (PrimTy.io_of m)))
+      (Form.named (Named.prim_ty (PrimTy.io_of n))) _ _ tt tt h in
       (io-of s.0, one-conv s.1)
 
   pub injective : Injective E

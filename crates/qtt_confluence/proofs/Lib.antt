@@ -8,5 +8,6 @@ pub mod Heads
 pub mod Compare
 pub mod HeadCount
 pub mod Count
+pub mod Recursion
 pub mod Examples
 pub mod Facts

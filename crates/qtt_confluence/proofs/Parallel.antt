@@ -22,11 +22,13 @@ mutual
 
 -- contraction commutes with substitution
 abbrev pub Stable : Rule → Type 0
-Stable c = (σ : ℕ → Term) (F : Form) (ts : Terms) (t : Term) → c F ts ≡ Some t → c F (subs (binders F) σ ts) ≡ Some (sub σ t)
+Stable c = (σ : ℕ → Term) (F : Form) (ts : Terms) (t : Term) → c F ts ≡ Some t →
+    c F (subs (binders F) σ ts) ≡ Some (sub σ t)
 
 -- what contracts still contracts after its components are contracted
 abbrev pub Coherent : Rule → Type 0
-Coherent c = (F : Form) (ts ss : Terms) (t : Term) → c F ts ≡ Some t → Pars c ts ss → (s : Term) × (c F ss ≡ Some s) × Par c t s
+Coherent c = (F : Form) (ts ss : Terms) (t : Term) → c F ts ≡ Some t → Pars c ts ss →
+    (s : Term) × (c F ss ≡ Some s) × Par c t s
 
 mutual
   pub par-refl : (c : Rule) (t : Term) → Par c t t
@@ -60,7 +62,8 @@ module _ (c : Rule) (stable : Stable c) where
   par-lifts (suc n) h = par-lifts n (par-lift h)
 
   mutual
-    pub par-sub : (σ τ : ℕ → Term) → ((i : ℕ) → Par c (σ i) (τ i)) → {t s : Term} → Par c t s → Par c (sub σ t) (sub τ s)
+    pub par-sub : (σ τ : ℕ → Term) → ((i : ℕ) → Par c (σ i) (τ i)) → {t s : Term} → Par c t s →
+        Par c (sub σ t) (sub τ s)
     par-sub σ τ hs (Par.pvar {i}) = hs i
     par-sub σ τ hs (Par.pnode {F} h) = Par.pnode (pars-sub (binders F) σ τ hs h)
     par-sub σ τ hs (Par.proot {F} {ts} {ss} {t} h e) = Par.proot (pars-sub (binders F) σ τ hs h) (stable τ F ss t e)
@@ -69,7 +72,8 @@ module _ (c : Rule) (stable : Stable c) where
         Pars c (subs ns σ ts) (subs ns τ ss)
     pars-sub ns σ τ hs Pars.pnil = Pars.pnil
     pars-sub ns σ τ hs (Pars.pcell h ks) =
-        Pars.pcell (par-sub (lifts (first ns) σ) (lifts (first ns) τ) (par-lifts (first ns) hs) h) (pars-sub (rest ns) σ τ hs ks)
+        Pars.pcell (par-sub (lifts (first ns) σ) (lifts (first ns) τ) (par-lifts (first ns) hs) h)
+        (pars-sub (rest ns) σ τ hs ks)
 
 -- many parallel contractions
 pub data ParMany (c : Rule) : Term → Term → Type 0 where
@@ -104,12 +108,14 @@ module _ (c : Rule) (coherent : Coherent c) where
     diamond (var i) u v Par.pvar Par.pvar = (var i, Par.pvar, Par.pvar)
     diamond (node F ts) u v (Par.pnode {ss = qs} h) (Par.pnode {ss = rs} k) =
         let j = diamonds ts qs rs h k in (node F j.0, Par.pnode j.1, Par.pnode j.2)
-    diamond (node F ts) u v (Par.pnode {ss = qs} h) (Par.proot {ss = rs} k e) = one-root F qs rs v e (diamonds ts qs rs h k)
+    diamond (node F ts) u v (Par.pnode {ss = qs} h) (Par.proot {ss = rs} k e) =
+        one-root F qs rs v e (diamonds ts qs rs h k)
     diamond (node F ts) u v (Par.proot {ss = qs} h d) (Par.pnode {ss = rs} k) =
         let j = diamonds ts qs rs h k in
         let r = one-root F rs qs u d (j.0, j.2, j.1) in
         (r.0, r.2, r.1)
-    diamond (node F ts) u v (Par.proot {ss = qs} h d) (Par.proot {ss = rs} k e) = two-roots F qs rs u v d e (diamonds ts qs rs h k)
+    diamond (node F ts) u v (Par.proot {ss = qs} h d) (Par.proot {ss = rs} k e) =
+        two-roots F qs rs u v d e (diamonds ts qs rs h k)
 
     pub diamonds : (ts qs rs : Terms) → Pars c ts qs → Pars c ts rs → Joins c qs rs
     diamonds ε qs rs Pars.pnil Pars.pnil = (ε, Pars.pnil, Pars.pnil)

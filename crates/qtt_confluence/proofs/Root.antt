@@ -23,19 +23,23 @@ pub data ScrutineeAt : List ℕ → Terms → Term → Type 0 where
 -- branch c, the number of its binders, and the scrutinee
 pub data BranchAt : ℕ → List ℕ → Terms → ℕ → Term → Term → Type 0 where
   here : {n : ℕ} {ns : List ℕ} {b s : Term} {ts : Terms} → ScrutineeAt ns ts s → BranchAt zero (n ∷ ns) (b ▸ ts) n b s
-  later : {c n m : ℕ} {ns : List ℕ} {d b s : Term} {ts : Terms} → BranchAt c ns ts n b s → BranchAt (suc c) (m ∷ ns) (d ▸ ts) n b s
+  later : {c n m : ℕ} {ns : List ℕ} {d b s : Term} {ts : Terms} → BranchAt c ns ts n b s →
+      BranchAt (suc c) (m ∷ ns) (d ▸ ts) n b s
 
 -- the same of all components, parameters and motive among them
 pub data Picks (c : ℕ) : ℕ → List ℕ → Terms → ℕ → Term → Term → Type 0 where
   motive : {ns : List ℕ} {n : ℕ} {P b s : Term} {ts : Terms} → BranchAt c ns ts n b s → Picks c zero ns (P ▸ ts) n b s
-  param : {k : ℕ} {ns : List ℕ} {n : ℕ} {a b s : Term} {ts : Terms} → Picks c k ns ts n b s → Picks c (suc k) ns (a ▸ ts) n b s
+  param : {k : ℕ} {ns : List ℕ} {n : ℕ} {a b s : Term} {ts : Terms} → Picks c k ns ts n b s →
+      Picks c (suc k) ns (a ▸ ts) n b s
 
 -- a form with its components contracts to a term
 pub data Root (E : Env) : Form → Terms → Term → Type 0 where
   by_beta : {q : Mult} {A b a : Term} → Root E (Form.app q) (Lam q A b ▸ a ▸ ε) (inst b a)
   by_iota : {q : Mult} {f : GlobalId} {c k l m n : ℕ} {ns : List ℕ} {ts xs : Terms} {b : Term} →
-      Picks c k ns ts n b (node (Form.con f c l) xs) → size (skip l xs) ≡ n → Root E (Form.case q f k m ns) ts (sub (push (skip l xs) var) b)
-  by_deletion : {q : Mult} {A s P b : Term} {l : ℕ} {xs : Terms} → Root E (Form.delete q) (A ▸ s ▸ P ▸ b ▸ node (Form.con eq_id zero l) xs ▸ ε) b
+      Picks c k ns ts n b (node (Form.con f c l) xs) → size (skip l xs) ≡ n →
+      Root E (Form.case q f k m ns) ts (sub (push (skip l xs) var) b)
+  by_deletion : {q : Mult} {A s P b : Term} {l : ℕ} {xs : Terms} →
+      Root E (Form.delete q) (A ▸ s ▸ P ▸ b ▸ node (Form.con eq_id zero l) xs ▸ ε) b
   by_delta : {d : GlobalId} {b : Term} → (definition_at E d).body ≡ Some b → Root E (Form.named (Named.def d)) ε b
   by_prim : {p : Primitive} {ts : Terms} {ls : List Lit} {t : Term} → literals ts ≡ Some ls → computed p ls ≡ Some t →
       Root E (Form.named (Named.prim p)) ts t
@@ -55,10 +59,17 @@ record Branched (c : ℕ) (ns : List ℕ) (ts fs : Terms) (s t : Term) : Type 0 
   sized : size fs ≡ binds
   is : t ≡ sub (push fs var) body
 
-view-branch : (c : ℕ) (ns : List ℕ) (ts fs : Terms) (s t : Term) → ScrutineeAt ns ts s → branch_at c ns ts fs ≡ Some t → Branched c ns ts fs s t
+view-branch : (c : ℕ) (ns : List ℕ) (ts fs : Terms) (s t : Term) → ScrutineeAt ns ts s →
+    branch_at c ns ts fs ≡ Some t → Branched c ns ts fs s t
 view-branch zero (n ∷ ns) (b ▸ ts) fs s t (ScrutineeAt.later h) e =
     let r = cond-some (eqb (size fs) n) (Some (sub (push fs var) b)) t e in
-    record { binds = n; body = b; at = BranchAt.here h; sized = eqb-true (size fs) n r.0; is = sym (some-injective r.1) }
+    record {
+      binds = n;
+      body = b;
+      at = BranchAt.here h;
+      sized = eqb-true (size fs) n r.0;
+      is = sym (some-injective r.1);
+    }
 view-branch (suc c) (n ∷ ns) (b ▸ ts) fs s t (ScrutineeAt.later h) e =
     let r = view-branch c ns ts fs s t h e in
     record { binds = r.binds; body = r.body; at = BranchAt.later r.at; sized = r.sized; is = r.is }
@@ -84,7 +95,8 @@ record Picked (f : GlobalId) (k : ℕ) (ns : List ℕ) (ts : Terms) (t : Term) :
   sized : size (skip params arguments) ≡ binds
   is : t ≡ sub (push (skip params arguments) var) body
 
-selected : (f : GlobalId) (ns : List ℕ) (P : Term) (ts : Terms) (s t : Term) (m : Made) → IsMade s m → ScrutineeAt ns ts s →
+selected : (f : GlobalId) (ns : List ℕ) (P : Term) (ts : Terms) (s t : Term) (m : Made) → IsMade s m →
+    ScrutineeAt ns ts s →
     select f ns ts m ≡ Some t → Picked f zero ns (P ▸ ts) t
 selected f ns P ts s t m (is_made {f = g} {c = c} {k = l} {ts = xs}) h e =
     let r = cond-some (same_id f g) (branch_at c ns ts (skip l xs)) t e in
@@ -95,17 +107,28 @@ selected f ns P ts s t m (is_made {f = g} {c = c} {k = l} {ts = xs}) h e =
       arguments = xs;
       binds = b.binds;
       body = b.body;
-      at = Picks.motive (subst (λ d. BranchAt c ns ts b.binds b.body (node (Form.con d c l) xs)) (sym (same_id-is f g r.0)) b.at);
+      at = Picks.motive (subst (λ d. BranchAt c ns ts b.binds b.body (node (Form.con d c l) xs))
+          (sym (same_id-is f g r.0)) b.at);
       sized = b.sized;
       is = b.is;
     }
 
-view-iota : (f : GlobalId) (k : ℕ) (ns : List ℕ) (ts : Terms) (t : Term) → iota f ns (skip k ts) ≡ Some t → Picked f k ns ts t
+view-iota : (f : GlobalId) (k : ℕ) (ns : List ℕ) (ts : Terms) (t : Term) → iota f ns (skip k ts) ≡ Some t →
+    Picked f k ns ts t
 view-iota f zero ns ε t e = absurd (none≢some e)
 view-iota f (suc k) ns ε t e = absurd (none≢some e)
 view-iota f (suc k) ns (a ▸ ts) t e =
     let r = view-iota f k ns ts t e in
-    record { place = r.place; params = r.params; arguments = r.arguments; binds = r.binds; body = r.body; at = Picks.param r.at; sized = r.sized; is = r.is }
+    record {
+      place = r.place;
+      params = r.params;
+      arguments = r.arguments;
+      binds = r.binds;
+      body = r.body;
+      at = Picks.param r.at;
+      sized = r.sized;
+      is = r.is;
+    }
 view-iota f zero ns (P ▸ ts) t e =
     let a = chain-some (scrutinee ns ts) (λ s. chain (as_con s) (select f ns ts)) t e in
     let b = chain-some (as_con a.0) (select f ns ts) t a.2 in
@@ -118,7 +141,8 @@ view-lam : (g : Term) (f : Function) → as_lam g ≡ Some f → IsLam g f
 view-lam (node (Form.lam q) (A ▸ b ▸ ε)) f e = subst (IsLam (Lam q A b)) (some-injective e) is_lam
 view-lam _ f e = absurd (none≢some e)
 
-called : (E : Env) (q : Mult) (g a t : Term) (f : Function) → IsLam g f → call q a f ≡ Some t → Root E (Form.app q) (g ▸ a ▸ ε) t
+called : (E : Env) (q : Mult) (g a t : Term) (f : Function) → IsLam g f → call q a f ≡ Some t →
+    Root E (Form.app q) (g ▸ a ▸ ε) t
 called E q g a t f (is_lam {q = r} {A = A} {b = b}) e =
     let c = cond-some (same_mult q r) (Some (inst b a)) t e in
     subst (Root E (Form.app q) (Lam r A b ▸ a ▸ ε)) (some-injective c.1)
@@ -130,7 +154,8 @@ view-beta E q (g ▸ a ▸ ε) t e =
     called E q g a t c.0 (view-lam g c.0 c.1) c.2
 view-beta E q _ t e = absurd (none≢some e)
 
-view-delta : (E : Env) (d : GlobalId) (ts : Terms) (t : Term) → delta E d ts ≡ Some t → Root E (Form.named (Named.def d)) ts t
+view-delta : (E : Env) (d : GlobalId) (ts : Terms) (t : Term) → delta E d ts ≡ Some t →
+    Root E (Form.named (Named.def d)) ts t
 view-delta E d ε t e = Root.by_delta e
 view-delta E d (a ▸ ts) t e = absurd (none≢some e)
 
@@ -140,7 +165,8 @@ deleted E q A s P b e t m (is_made {f = f} {c = c} {k = l} {ts = xs}) h =
     let r = cond-some (same_id f eq_id && eqb c 0) (Some b) t h in
     let p = and_parts (same_id f eq_id) (eqb c 0) r.0 in
     subst (Root E (Form.delete q) (A ▸ s ▸ P ▸ b ▸ node (Form.con f c l) xs ▸ ε)) (some-injective r.1)
-    (subst₂ (λ f c. Root E (Form.delete q) (A ▸ s ▸ P ▸ b ▸ node (Form.con f c l) xs ▸ ε) b) (sym (same_id-is f eq_id p.0))
+    (subst₂ (λ f c. Root E (Form.delete q) (A ▸ s ▸ P ▸ b ▸ node (Form.con f c l) xs ▸ ε) b)
+    (sym (same_id-is f eq_id p.0))
     (sym (eqb-true c 0 p.1)) Root.by_deletion)
 
 view-deletion : (E : Env) (q : Mult) (ts : Terms) (t : Term) → deletion ts ≡ Some t → Root E (Form.delete q) ts t

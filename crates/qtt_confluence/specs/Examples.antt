@@ -1,4 +1,5 @@
--- Examples, in every environment: conversion is neither sameness nor everything, and a term can contract in two ways.
+-- Examples, in every environment: conversion is neither sameness nor everything, and a term can contract in two
+-- ways.
 use Rattle.std.specs.Prelude.{◌≡◌, ◌≢◌, [], ◌∷◌, Some, None}
 use Rattle.qtt_base.specs.declared.place.GlobalId.{GlobalId}
 use Rattle.qtt_usage.specs.Mult.{𝟘, ω}
@@ -17,7 +18,10 @@ arrow_of a = App ω (Lam ω (Sort 0) (Pi ω (var 0) (var 1))) a
 
 -- each definition is Int
 abbrev pub each_is_int : Env
-each_is_int = record { family = λ f. None; definition = λ d. Some (record { mult = 𝟘; type = Sort 0; body = Some IntTy }) }
+each_is_int = record {
+  family = λ f. None;
+  definition = λ d. Some (record { mult = 𝟘; type = Sort 0; body = Some IntTy });
+}
 
 -- the first contracts to Int, and is not String
 pub record ConversionTells (E : Env) : Type 0 where

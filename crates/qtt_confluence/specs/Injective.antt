@@ -1,4 +1,5 @@
--- Injectivity: what the conversion of two terms whose forms are never contracted says of their fixed parts and components.
+-- Injectivity: what the conversion of two terms whose forms are never contracted says of their fixed parts and
+-- components.
 use Rattle.std.specs.Prelude.{◌≡◌, ℕ}
 use Rattle.qtt_base.specs.declared.place.GlobalId.{GlobalId}
 use Rattle.qtt_usage.specs.declared.mult.Mult.{Mult}
@@ -21,7 +22,8 @@ Rigid (Form.named (Named.prim p)) = ⊥
 Rigid _ = Unit {0}
 
 abbrev pub RigidInjective : Env → Type 0
-RigidInjective E = (F G : Form) (ts ss : Terms) → Rigid F → Rigid G → Conv E (node F ts) (node G ss) → (F ≡ G) × Convs E ts ss
+RigidInjective E = (F G : Form) (ts ss : Terms) → Rigid F → Rigid G → Conv E (node F ts) (node G ss) →
+    (F ≡ G) × Convs E ts ss
 
 abbrev pub SortInjective : Env → Type 0
 SortInjective E = (l k : ℕ) → Conv E (Sort l) (Sort k) → l ≡ k

@@ -1,14 +1,15 @@
 //! Laws of contraction and conversion. Each function does nothing: its contract is the law.
 
-ghost use Rattle.qtt_confluence.specs.Laws.{ContractionIsConfluent, TypesAreInjective, RigidHeadsDiffer, ConvertibleHeadsAgree, HeadIsExact, CountAloneLimits, EqualIsConvertible, DifferentIsApart, DefinitionsTell};
+ghost use Rattle.qtt_confluence.specs.Laws.{ContractionIsConfluent, TypesAreInjective, RigidHeadsDiffer, ConvertibleHeadsAgree, HeadIsExact, CountAloneLimits, ComparesByRecursion, EqualIsConvertible, DifferentIsApart, DefinitionsTell};
 
 /// Two convertible terms contract to a common term.
 pub fn contraction_is_confluent()
     ensures { ContractionIsConfluent }
 {}
 
-/// Convertible terms of forms that are never contracted have equal fixed parts and convertible components: sorts, function types,
-/// families, constructors and primitive types, `IO` and `IO1` among them.
+/// Convertible terms of forms that are never contracted have equal fixed parts and convertible
+/// components: sorts, function types, families, constructors and primitive types, `IO` and `IO1`
+/// among them.
 pub fn types_are_injective()
     ensures { TypesAreInjective }
 {}
@@ -23,16 +24,24 @@ pub fn convertible_heads_agree()
     ensures { ConvertibleHeadsAgree }
 {}
 
-/// A head within a count is where the contractions toward it end, and no head is found only where one contraction more than the count
-/// can be made. A term contracts to its head.
+/// A head within a count is where the contractions toward it end, and no head is found only
+/// where one contraction more than the count can be made. A term contracts to its head.
 pub fn head_is_exact()
     ensures { HeadIsExact }
 {}
 
-/// The comparison is that of its relation, in which nothing but the count of contractions limits it: a contraction alone takes from the
-/// count, and the count is spent only where one contraction more than it would be made.
+/// The comparison is that of its relation, in which nothing but the count of contractions limits
+/// it: a contraction alone takes from the count, and the count is spent only where one
+/// contraction more than it would be made.
 pub fn count_alone_limits()
     ensures { CountAloneLimits }
+{}
+
+/// The comparison is a recursion: terms that are the same are equal; otherwise the heads of
+/// both, then their forms and fixed parts, and then their components from left to right are
+/// compared, all under one count, and the first that is not equal is the answer.
+pub fn compares_by_recursion()
+    ensures { ComparesByRecursion }
 {}
 
 /// Terms that the comparison finds equal are convertible.
@@ -45,7 +54,8 @@ pub fn different_is_apart()
     ensures { DifferentIsApart }
 {}
 
-/// The laws speak of something: some terms are convertible and not the same, some are not convertible, and some contract in two ways.
+/// The laws speak of something: some terms are convertible and not the same, some are not
+/// convertible, and some contract in two ways.
 pub fn definitions_tell()
     ensures { DefinitionsTell }
 {}

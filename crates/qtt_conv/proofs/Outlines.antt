@@ -1,17 +1,16 @@
 -- Outlines of the code's terms.
-use Rattle.std.proofs.Common.{◌≡◌, ℕ, zero, suc, ◌+◌, ◌<◌, List, [], ◌∷◌, map, length, get_or, Bool, true, false, ◌&&◌, eqb, refl, sym, ◌∙◌, ap, subst, arith}
+use Rattle.std.proofs.Common.{◌≡◌, ℕ, zero, suc, ◌+◌, ◌<◌, List, [], ◌∷◌, map, length, get_or, Bool, true, false, eqb, refl, sym, ◌∙◌, ap, subst, arith}
 use mathlib.Core.Path.{ap₂}
 use Rattle.std.proofs.lemmas.Bool.{eq-eqb, eqb-true, and_parts, and_from}
 use Rattle.std.proofs.lemmas.Grind.{common_steps}
 use Rattle.std.proofs.lemmas.List.{length-map}
 use Rattle.qtt_base.specs.declared.place.GlobalId.{GlobalId}
 use Rattle.qtt_usage.specs.declared.mult.Mult.{Mult}
-use Rattle.qtt_prims.specs.declared.prim.ActKind.{ActKind}
 use Rattle.qtt_term.specs.declared.term.Term.{the_lemmas}
 use Rattle.qtt_term.specs.declared.term.Branch as code_branch
 use Rattle.qtt_term.specs.Term.{Form, Term, Terms, var, node, ε, ◌▸◌, ◌+++◌, size}
 use Rattle.qtt_term.specs.Question.{same_form, same_outline}
-use Rattle.qtt_term.specs.View.{action, branch, branches, side_by_side}
+use Rattle.qtt_term.specs.View.{branch, branches, side_by_side}
 use Rattle.qtt_term.proofs.Same.{form-is, form-same}
 use Rattle.qtt_term.proofs.Components.{case_of, same_action}
 use Rattle.qtt_confluence.specs.Heads.{Outline, outline}
@@ -23,7 +22,8 @@ size-append (t ▸ ts) ss = let e : size (ts +++ ss) ≡ size ts + size ss = siz
 
 -- the outline of a Case is that of its fixed parts
 case-size : (ps : List Term) (m : Term) (bs : List (ℕ × Term)) (s : Term) →
-    size (side_by_side ps +++ (m ▸ (side_by_side (map (λ b. b.1) bs) +++ (s ▸ ε)))) ≡ length ps + suc (length (map (λ b. b.0) bs) + 1)
+    size (side_by_side ps +++ (m ▸ (side_by_side (map (λ b. b.1) bs) +++ (s ▸ ε)))) ≡ length ps + suc
+    (length (map (λ b. b.0) bs) + 1)
 case-size ps m bs s =
     let e = size-append (side_by_side ps) (m ▸ (side_by_side (map (λ b. b.1) bs) +++ (s ▸ ε))) in
     let f = size-append (side_by_side (map (λ b. b.1) bs)) (s ▸ ε) in
@@ -34,14 +34,17 @@ case-size ps m bs s =
     omega (arith, e, f, g, h, i, j)
 
 pub case-outline : (q : Mult) (f : GlobalId) (ps : List Term) (i : ℕ) (m : Term) (bs : List (ℕ × Term)) (s : Term) →
-    outline (case_of q f ps i m bs s) ≡ Outline.form (Form.case q f (length ps) (i + 1) (map (λ b. b.0) bs)) (length ps + suc (length (map (λ b. b.0) bs) + 1))
-case-outline q f ps i m bs s = ap (Outline.form (Form.case q f (length ps) (i + 1) (map (λ b. b.0) bs))) (case-size ps m bs s)
+    outline (case_of q f ps i m bs s) ≡ Outline.form (Form.case q f (length ps) (i + 1) (map (λ b. b.0) bs))
+    (length ps + suc (length (map (λ b. b.0) bs) + 1))
+case-outline q f ps i m bs s =
+    ap (Outline.form (Form.case q f (length ps) (i + 1) (map (λ b. b.0) bs))) (case-size ps m bs s)
 
 -- ---- the numbers of the fields of branches
 fields-seen : (b : code_branch.Branch) → (branch b).0 ≡ b.fields
 fields-seen b = grind (arith, the_lemmas)
 
-pub fields-at : (xs ys : List code_branch.Branch) (i : ℕ) (x y : code_branch.Branch) → i < length xs → i < length ys → x ≡ get_or xs i x → y ≡ get_or ys i y →
+pub fields-at : (xs ys : List code_branch.Branch) (i : ℕ) (x y : code_branch.Branch) → i < length xs →
+    i < length ys → x ≡ get_or xs i x → y ≡ get_or ys i y →
     map (λ b. b.0) (branches xs) ≡ map (λ b. b.0) (branches ys) → x.fields ≡ y.fields
 fields-at [] ys i x y p q d e h = absurd (omega arith)
 fields-at (a ∷ xs) [] i x y p q d e h = absurd (omega arith)
@@ -60,7 +63,8 @@ outline-tested (node F ts) (var j) e = absurd (cc e)
 outline-tested (node F ts) (node G ss) e =
     let forms : F ≡ G = cc e in
     let sizes : size ts ≡ size ss = cc e in
-    and_from (same_form F G) (eqb (size ts) (size ss)) (subst (λ H. same_form F H ≡ true) forms (form-same F)) (eq-eqb (size ts) (size ss) sizes)
+    and_from (same_form F G) (eqb (size ts) (size ss)) (subst (λ H. same_form F H ≡ true) forms (form-same F))
+    (eq-eqb (size ts) (size ss) sizes)
 
 tested-outline : (t s : Term) → same_outline t s ≡ true → outline t ≡ outline s
 tested-outline (var i) (var j) e = ap Outline.variable (eqb-true i j e)

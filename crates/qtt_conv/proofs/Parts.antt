@@ -1,11 +1,10 @@
 -- Components as lists.
-use Rattle.std.proofs.Common.{◌≡◌, List, [], ◌∷◌, ◌++◌, map, refl, ap}
+use Rattle.std.proofs.Common.{◌≡◌, List, [], ◌∷◌, ◌++◌, refl, ap}
 use Rattle.std.proofs.lemmas.Grind.{common_steps}
 use Rattle.std.proofs.lemmas.List.{map-append}
 use Rattle.qtt_term.specs.declared.term.Term.{the_lemmas}
 use Rattle.qtt_term.specs.Term.{Term, Terms, ε, ◌▸◌, ◌+++◌}
 use Rattle.qtt_term.specs.View.{side_by_side}
-use Rattle.qtt_term.proofs.Components.{joined}
 
 pub side_by_side-append : (xs ys : List Term) → side_by_side (xs ++ ys) ≡ side_by_side xs +++ side_by_side ys
 side_by_side-append [] ys = refl

@@ -1,6 +1,5 @@
 -- Steps of terms that are taken apart, and heads within a count.
-use Rattle.std.proofs.Common.{◌≡◌, ℕ, zero, suc, ◌+◌, ◌<◌, List, [], ◌∷◌, ◌++◌, map, Option, Some, None, refl, sym, ◌∙◌, ap, subst, arith}
-use Rattle.qtt_prims.specs.declared.lit.Lit.{Lit}
+use Rattle.std.proofs.Common.{◌≡◌, ℕ, zero, suc, ◌+◌, ◌<◌, List, [], ◌∷◌, ◌++◌, map, Some, None, refl, sym, ◌∙◌, ap, subst, arith}
 use Rattle.qtt_term.specs.Term.{Term, Terms, node, ε, ◌▸◌, ◌+++◌}
 use Rattle.qtt_term.specs.Signature.{Env}
 use Rattle.qtt_term.specs.Contraction.{as_lit, contract}
@@ -21,7 +20,8 @@ last-same (z ∷ []) [] x y e = absurd (cc e)
 last-same (z ∷ w ∷ xs) [] x y e = absurd (cc e)
 last-same (z ∷ xs) (w ∷ ys) x y e = last-same xs ys x y (cc e)
 
-pub waits-push : (fs : List Frame) (f : Frame) (t : Term) (all : List Frame) → all ≡ fs ++ f ∷ [] → Fits f t → Waits all t
+pub waits-push : (fs : List Frame) (f : Frame) (t : Term) (all : List Frame) → all ≡ fs ++ f ∷ [] → Fits f t →
+    Waits all t
 waits-push fs f t all is fits = λ gs g e. subst (λ h. Fits h t) (last-same fs gs f g (sym is ∙ e)) fits
 
 pub waits-none : (t : Term) (all : List Frame) → all ≡ [] → Waits all t
@@ -44,7 +44,8 @@ pub waits-plugged : (fs : List Frame) (f : Frame) (t s : Term) → s ≡ plug f 
 waits-plugged fs f t s e = waits-no_literal fs s (ap as_lit e ∙ (plugged-is_no_value f t).lit)
 
 -- ---- frames that are taken off and put on
-pub plug_all-last : (fs : List Frame) (f : Frame) (t : Term) (all : List Frame) → all ≡ fs ++ f ∷ [] → plug_all all t ≡ plug_all fs (plug f t)
+pub plug_all-last : (fs : List Frame) (f : Frame) (t : Term) (all : List Frame) → all ≡ fs ++ f ∷ [] →
+    plug_all all t ≡ plug_all fs (plug f t)
 plug_all-last fs f t all is = ap (λ gs. plug_all gs t) is ∙ plug_all-push fs f t
 
 pub plug_all-none : (t : Term) (all : List Frame) → all ≡ [] → plug_all all t ≡ t
@@ -70,11 +71,16 @@ pub component-lighter : (f : Frame) (t s : Term) → plug f t ≡ s → weight t
 component-lighter f t s e = subst (λ r. weight t < weight r) e (heavier f t)
 
 -- ---- a step of the innermost frame
-pub frame-steps : (E : Env) (fs : List Frame) (f : Frame) (t r : Term) (all : List Frame) → all ≡ fs ++ f ∷ [] → contract E (form_of f) (parts_of f t) ≡ Some r →
+pub frame-steps : (E : Env) (fs : List Frame) (f : Frame) (t r : Term) (all : List Frame) → all ≡ fs ++ f ∷ [] →
+    contract E (form_of f) (parts_of f t) ≡ Some r →
     head_step E (plug_all all t) ≡ Some (plug_all fs r)
-frame-steps E fs f t r all is e = ap (head_step E) (plug_all-last fs f t all is) ∙ step-plugged E fs (plug f t) r (ap (λ o. either o (wrap (node (form_of f)) (asked (form_of f) (step_at E (parts_of f t)) (arguments_step E (parts_of f t))))) e)
+frame-steps E fs f t r all is e =
+    ap (head_step E) (plug_all-last fs f t all is) ∙ step-plugged E fs (plug f t) r
+    (ap (λ o. either o (wrap (node (form_of f))
+    (asked (form_of f) (step_at E (parts_of f t)) (arguments_step E (parts_of f t))))) e)
 
-pub frame-stuck : (E : Env) (fs : List Frame) (f : Frame) (t : Term) (all : List Frame) → all ≡ fs ++ f ∷ [] → Fits f t → contract E (form_of f) (parts_of f t) ≡ None → head_step E t ≡ None →
+pub frame-stuck : (E : Env) (fs : List Frame) (f : Frame) (t : Term) (all : List Frame) → all ≡ fs ++ f ∷ [] →
+    Fits f t → contract E (form_of f) (parts_of f t) ≡ None → head_step E t ≡ None →
     head_step E (plug_all all t) ≡ None
 frame-stuck E fs f t all is fits e h =
     ap (head_step E) (plug_all-last fs f t all is)
@@ -85,10 +91,12 @@ pub head_from-ends : (E : Env) (n made : ℕ) (t : Term) → head_step E t ≡ N
 head_from-ends E zero made t e = rw (e, head_from) refl
 head_from-ends E (suc n) made t e = rw (e, head_from) refl
 
-pub head_from-spent : (E : Env) (n made : ℕ) (t s : Term) → n ≡ 0 → head_step E t ≡ Some s → head_from E n made t ≡ Head.spent
+pub head_from-spent : (E : Env) (n made : ℕ) (t s : Term) → n ≡ 0 → head_step E t ≡ Some s →
+    head_from E n made t ≡ Head.spent
 head_from-spent E zero made t s z e = rw (e, head_from) refl
 head_from-spent E (suc n) made t s z e = absurd (omega arith)
 
-pub head_from-goes : (E : Env) (n k made : ℕ) (t s : Term) → n ≡ suc k → head_step E t ≡ Some s → head_from E n made t ≡ head_from E k (suc made) s
+pub head_from-goes : (E : Env) (n k made : ℕ) (t s : Term) → n ≡ suc k → head_step E t ≡ Some s →
+    head_from E n made t ≡ head_from E k (suc made) s
 head_from-goes E zero k made t s z e = absurd (omega arith)
 head_from-goes E (suc n) k made t s z e = rw (e, head_from) (ap (λ m. head_from E m (suc made) s) (omega arith))

@@ -1,4 +1,5 @@
--- Terms taken apart on the way to their heads: frames, each around a place, and what stands in the innermost place.
+-- Terms taken apart on the way to their heads: frames, each around a place, and what stands in the innermost
+-- place.
 use Rattle.std.specs.Prelude.{◌≡◌, ℕ, ◌+◌, List, [], ◌∷◌, map, length, slice_get, Option, Some, None, cond, eqb}
 use Rattle.qtt_base.specs.declared.place.GlobalId.{GlobalId}
 use Rattle.qtt_prims.specs.declared.lit.Lit.{Lit}
@@ -18,11 +19,13 @@ literal_terms [] = ε
 literal_terms (l ∷ ls) = literal_term l ▸ literal_terms ls
 
 abbrev pub case_form : Branching → Form
-case_form c = Form.case c.mult c.family (length c.params.items) (c.indices + 1) (map (λ b. b.0) (branches c.branches.items))
+case_form c = Form.case c.mult c.family (length c.params.items) (c.indices + 1)
+    (map (λ b. b.0) (branches c.branches.items))
 
 -- the components of a Case with this scrutinee
 abbrev pub case_parts : Branching → Term → Terms
-case_parts c t = side_by_side (terms c.params.items) +++ (term c.motive ▸ (side_by_side (map (λ b. b.1) (branches c.branches.items)) +++ (t ▸ ε)))
+case_parts c t = side_by_side (terms c.params.items) +++
+    (term c.motive ▸ (side_by_side (map (λ b. b.1) (branches c.branches.items)) +++ (t ▸ ε)))
 
 abbrev pub delete_form : Deletion → Form
 delete_form d = Form.delete d.mult

@@ -26,4 +26,5 @@ RoundTo E n is (round.Contracted fewer ps) = (within_count E fewer (pairs ps.ite
 abbrev pub TakesTo : Env → ℕ → List Item → Round → Type 0
 TakesTo E n is (round.Answered a) = answer a ≡ within_count E n is
 TakesTo E n is (round.Contracted fewer ps) =
-    (within_count E fewer (pairs ps.items) ≡ within_count E n is) × (fewer ≤ n) × (fewer ≡ n → weight_of (pairs ps.items) < weight_of is)
+    (within_count E fewer (pairs ps.items) ≡ within_count E n is) × (fewer ≤ n) ×
+    (fewer ≡ n → weight_of (pairs ps.items) < weight_of is)

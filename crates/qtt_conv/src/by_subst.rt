@@ -6,10 +6,12 @@ use qtt_base::MemoryError;
 use qtt_term::{Answer, Converter, Globals, Head, Term};
 use std::alloc::Global;
 
-/// Answers by contracting the terms themselves. The machine's stack does not grow with the number of contractions, nor for `head` with how
-/// many applications, matches, deletions and primitives stand around the head (measured: a head under 200,000 applications is answered).
-/// It grows with how deep terms are nested elsewhere, and for `compare`, which copies, tests and drops whole terms, with how deep they are
-/// nested anywhere (measured: applications nested 1,400 deep overflow it in a build with checks).
+/// Answers by contracting the terms themselves. The machine's stack does not grow with the
+/// number of contractions, nor for `head` with how many applications, matches, deletions and
+/// primitives stand around the head (measured: a head under 200,000 applications is answered).
+/// It grows with how deep terms are nested elsewhere, and for `compare`, which copies, tests and
+/// drops whole terms, with how deep they are nested anywhere (measured: applications nested
+/// 1,400 deep overflow it in a build with checks).
 #[derive(Clone, Copy, Debug)]
 pub struct BySubst;
 

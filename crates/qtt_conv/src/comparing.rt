@@ -3,7 +3,7 @@
 ghost use Rattle.std.specs.Prelude.{◌≡◌, ◌∷◌, ◌++◌, vec_len, IfOk, OnOk};
 ghost use Rattle.qtt_term.specs.Globals.{env as env_of};
 ghost use Rattle.qtt_term.specs.Answers.{answer as answer_of};
-ghost use Rattle.qtt_term.specs.Question.{compare as compare_within, within_count, beside};
+ghost use Rattle.qtt_term.specs.Question.{compare as compare_within, beside};
 ghost use Rattle.qtt_term.specs.View.{term, terms, side_by_side};
 ghost use Rattle.qtt_conv.specs.Stacks.{item_of, pairs, RoundTo, TakesTo};
 
@@ -20,7 +20,8 @@ pub struct Pair {
     right: Term,
 }
 
-/// How far a comparison came: to its answer, or to a contraction, after which so many may be made for the pairs that are left.
+/// How far a comparison came: to its answer, or to a contraction, after which so many may be
+/// made for the pairs that are left.
 #[derive(Drop)]
 pub enum Round {
     Answered(Answer),
@@ -35,7 +36,8 @@ pub fn compared(
     t: &Term,
     u: &Term,
 ) -> Result<Answer, MemoryError>
-    ensures { IfOk result (λ a. answer_of a ≡ compare_within (env_of env.now) n (term t.now) (term u.now)) }
+    ensures { IfOk result (λ a. answer_of a ≡ compare_within (env_of env.now) n (term t.now)
+        (term u.now)) }
 {
     let first = Pair {
         path: Vec::new(alloc),
@@ -111,7 +113,9 @@ fn push_pairs(
     mut rights: Vec<Term>,
 ) -> Result<(), MemoryError>
     requires { vec_len lefts ≡ vec_len rights }
-    ensures { OnOk result (pairs stack.new.items ≡ beside path.now 0 (side_by_side (terms lefts.items)) (side_by_side (terms rights.items)) ++ pairs stack.old.items) }
+    ensures { OnOk result (pairs stack.new.items ≡ beside path.now 0
+        (side_by_side (terms lefts.items)) (side_by_side (terms rights.items)) ++ pairs
+        stack.old.items) }
 {
     while let Some(left) = lefts.pop() {
         let right = rights.pop().unwrap();

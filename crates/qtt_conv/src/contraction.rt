@@ -51,7 +51,8 @@ pub fn frame_contracted(
     frame: &Frame,
     inner: &Term,
 ) -> Result<Option<Term>, MemoryError>
-    ensures { IfOk result (λ o. (E : Env) → Fits frame.now (term inner.now) → option_map term o ≡ contract E (form_of frame.now) (parts_of frame.now (term inner.now))) }
+    ensures { IfOk result (λ o. (E : Env) → Fits frame.now (term inner.now) →
+        option_map term o ≡ contract E (form_of frame.now) (parts_of frame.now (term inner.now))) }
 {
     match frame {
         Frame::Argument(mult, argument) => applied(alloc, *mult, inner, argument),
@@ -68,7 +69,8 @@ fn applied(
     function: &Term,
     argument: &Term,
 ) -> Result<Option<Term>, MemoryError>
-    ensures { IfOk result (λ o. option_map term o ≡ beta mult (term function.now ▸ term argument.now ▸ ε)) }
+    ensures { IfOk result (λ o. option_map term o ≡ beta mult
+        (term function.now ▸ term argument.now ▸ ε)) }
 {
     match function {
         Term::Lam(declared, _, body) => {
@@ -88,7 +90,11 @@ fn chosen(
     branching: &Branching,
     scrutinee: &Term,
 ) -> Result<Option<Term>, MemoryError>
-    ensures { IfOk result (λ o. option_map term o ≡ iota branching.now.family (map (λ b. b.0) (branches branching.now.branches.items)) (term branching.now.motive ▸ (side_by_side (map (λ b. b.1) (branches branching.now.branches.items)) +++ (term scrutinee.now ▸ ε)))) }
+    ensures { IfOk result (λ o. option_map term o ≡ iota branching.now.family
+        (map (λ b. b.0) (branches branching.now.branches.items))
+        (term branching.now.motive ▸
+        (side_by_side (map (λ b. b.1) (branches branching.now.branches.items)) +++
+        (term scrutinee.now ▸ ε)))) }
 {
     match as_constructor(scrutinee) {
         Some((con, fields)) => match branch_for(branching, con, fields.len()) {
@@ -101,7 +107,8 @@ fn chosen(
 
 /// The body of the branch of a constructor with so many fields.
 fn branch_for(branching: &Branching, con: ConId, fields: usize) -> Option<&Term>
-    ensures { option_map (λ t. term t.now) result ≡ body_for branching.now.family (branches branching.now.branches.items) con fields }
+    ensures { option_map (λ t. term t.now) result ≡ body_for branching.now.family
+        (branches branching.now.branches.items) con fields }
 {
     if !same_id(branching.family, con.family) {
         return None;
@@ -122,7 +129,8 @@ fn branch_at(branches: &[Branch], place: u32) -> Option<&Branch>
 
 /// The branch of a Delete of a proof by reflexivity.
 fn deleted(alloc: Global, around: &Deletion, proof: &Term) -> Result<Option<Term>, MemoryError>
-    ensures { IfOk result (λ o. option_map term o ≡ deletion (delete_parts around.now (term proof.now))) }
+    ensures { IfOk result (λ o. option_map term o ≡ deletion
+        (delete_parts around.now (term proof.now))) }
 {
     match as_constructor(proof) {
         Some((con, _)) if same_id(con.family, EQ) && con.place == 0 => {
@@ -134,7 +142,8 @@ fn deleted(alloc: Global, around: &Deletion, proof: &Term) -> Result<Option<Term
 
 /// A constructor with its fields.
 fn as_constructor(t: &Term) -> Option<(ConId, &[Term])>
-    ensures { option_map (λ r. Made.made r.0.family r.0.place (side_by_side (terms r.1.now))) result ≡ as_con (term t.now) }
+    ensures { option_map (λ r. Made.made r.0.family r.0.place (side_by_side (terms r.1.now)))
+        result ≡ as_con (term t.now) }
 {
     match t {
         Term::Con(con, _, fields) => Some((*con, fields)),
@@ -164,7 +173,8 @@ fn call_contracted(
     prim: Primitive,
     arguments: &[Term],
 ) -> Result<Option<Term>, MemoryError>
-    ensures { IfOk result (λ o. option_map term o ≡ chain (literals (side_by_side (terms arguments.now))) (computed prim)) }
+    ensures { IfOk result (λ o. option_map term o ≡ chain
+        (literals (side_by_side (terms arguments.now))) (computed prim)) }
 {
     let (values, rest) = leading_literals(alloc, arguments)?;
     if rest.is_empty() {

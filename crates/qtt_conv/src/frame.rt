@@ -108,7 +108,8 @@ fn arguments(
     inner: Term,
     mut after: Vec<Term>,
 ) -> Result<Vec<Term>, MemoryError>
-    ensures { IfOk result (λ v. side_by_side (terms v.items) ≡ literal_terms before.items +++ (term inner ▸ side_by_side (terms after.items))) }
+    ensures { IfOk result (λ v. side_by_side (terms v.items) ≡ literal_terms before.items +++
+        (term inner ▸ side_by_side (terms after.items))) }
 {
     let mut all = literals_as_terms(alloc, before)?;
     all.push(inner)?;
@@ -127,9 +128,11 @@ fn literals_as_terms(alloc: Global, literals: Vec<Lit>) -> Result<Vec<Term>, Mem
     )
 }
 
-/// The frame around the component whose head a term takes, and that component; none where the head of no component is taken.
+/// The frame around the component whose head a term takes, and that component; none where the
+/// head of no component is taken.
 pub fn taken_apart(alloc: Global, t: &Term) -> Result<Option<(Frame, &Term)>, MemoryError>
-    ensures { IfOk result (λ o. MatchOption o (IsFocus (term t.now)) (λ r. (plug r.0 (term r.1.now) ≡ term t.now) × Fits r.0 (term r.1.now))) }
+    ensures { IfOk result (λ o. MatchOption o (IsFocus (term t.now))
+        (λ r. (plug r.0 (term r.1.now) ≡ term t.now) × Fits r.0 (term r.1.now))) }
 {
     match t {
         Term::App(mult, function, argument) => {
@@ -163,7 +166,9 @@ pub fn leading_literals(
     alloc: Global,
     arguments: &[Term],
 ) -> Result<(Vec<Lit>, &[Term]), MemoryError>
-    ensures parts { IfOk result (λ r. side_by_side (terms arguments.now) ≡ literal_terms r.0.items +++ side_by_side (terms r.1.now)) }
+    ensures parts { IfOk result
+        (λ r. side_by_side (terms arguments.now) ≡ literal_terms r.0.items +++ side_by_side
+        (terms r.1.now)) }
     ensures stops { IfOk result (λ r. starts_with_no_literal (side_by_side (terms r.1.now))) }
 {
     let mut literals = Vec::new(alloc);
@@ -177,7 +182,10 @@ pub fn leading_literals(
 
 /// The literal with which a list begins, and what follows it.
 fn first_literal(arguments: &[Term]) -> Option<(&Lit, &[Term])>
-    ensures cases { MatchOption result (starts_with_no_literal (side_by_side (terms arguments.now))) (λ r. side_by_side (terms arguments.now) ≡ literal_term r.0.now ▸ side_by_side (terms r.1.now)) }
+    ensures cases { MatchOption result
+        (starts_with_no_literal (side_by_side (terms arguments.now)))
+        (λ r. side_by_side (terms arguments.now) ≡ literal_term r.0.now ▸ side_by_side
+        (terms r.1.now)) }
     ensures shorter { IfSome result (λ r. length r.1.now < length arguments.now) }
 {
     match arguments.split_first()? {
@@ -188,7 +196,8 @@ fn first_literal(arguments: &[Term]) -> Option<(&Lit, &[Term])>
 
 /// A Case but for its scrutinee.
 fn around_scrutinee(alloc: Global, source: &Case) -> Result<Branching, MemoryError>
-    ensures { IfOk result (λ b. case source.now ≡ node (case_form b) (case_parts b (term (out-Case source.now).scrutinee))) }
+    ensures { IfOk result (λ b. case source.now ≡ node (case_form b)
+        (case_parts b (term (out-Case source.now).scrutinee))) }
 {
     Ok(Branching {
         mult: source.mult,
@@ -215,7 +224,8 @@ fn copy_branches(alloc: Global, sources: &[Branch]) -> Result<Vec<Branch>, Memor
 
 /// A Delete but for its scrutinee.
 fn around_proof(alloc: Global, source: &Delete) -> Result<Deletion, MemoryError>
-    ensures { IfOk result (λ d. delete source.now ≡ node (delete_form d) (delete_parts d (term source.now.scrutinee))) }
+    ensures { IfOk result (λ d. delete source.now ≡ node (delete_form d)
+        (delete_parts d (term source.now.scrutinee))) }
 {
     Ok(Deletion {
         mult: source.mult,

@@ -1,4 +1,8 @@
 //! Questions about terms, answered by contraction with substitution.
+//!
+//! `BySubst` answers `head` and `compare` exactly as defined, with the exact count. Its
+//! contractions use no stack of the machine, but `compare`, and a head below arguments, copy
+//! and drop whole terms by recursion.
 #![tactic(auto)]
 
 mod by_subst;
@@ -12,6 +16,3 @@ mod pair;
 mod spine;
 
 pub use by_subst::BySubst;
-
-#[cfg(test)]
-mod tests;

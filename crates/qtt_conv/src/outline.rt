@@ -31,7 +31,7 @@ pub fn same_outline(one: &Term, other: &Term) -> bool
         (Term::IoTy(k, _), Term::IoTy(m, _)) => k == m,
         (Term::Prim(p, xs), Term::Prim(q, ys)) => p == q && xs.len() == ys.len(),
         (Term::Act(p, ps, xs), Term::Act(q, qs, ys)) => {
-            p == q && ps.len() + xs.len() == qs.len() + ys.len()
+            p == q && ps.len() == qs.len() && xs.len() == ys.len()
         }
         (Term::Trap(_), Term::Trap(_)) => true,
         (Term::Tape(i), Term::Tape(j)) => i == j,
@@ -53,7 +53,8 @@ fn same_branching(one: &Case, other: &Case) -> bool
 /// Whether branches stand under the same numbers of binders.
 #[tactic(auto, using(crate::proofs::Outlines::outlines))]
 fn same_fields(ones: &[Branch], others: &[Branch]) -> bool
-    ensures { IsTrue result ↔ (map (λ b. b.0) (branches ones.now) ≡ map (λ b. b.0) (branches others.now)) }
+    ensures { IsTrue result ↔
+        (map (λ b. b.0) (branches ones.now) ≡ map (λ b. b.0) (branches others.now)) }
 {
     if ones.len() != others.len() {
         return false;

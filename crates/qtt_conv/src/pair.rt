@@ -1,6 +1,6 @@
 //! One pair of a comparison.
 
-ghost use Rattle.std.specs.Prelude.{◌≡◌, IfOk};
+ghost use Rattle.std.specs.Prelude.{IfOk};
 ghost use Rattle.qtt_term.specs.Globals.{env as env_of};
 ghost use Rattle.qtt_term.specs.View.{term};
 ghost use Rattle.qtt_conv.specs.Pairs.{LeadsTo, HeadsLeadTo};

@@ -53,7 +53,8 @@ impl Spine {
 /// A step where what stands in the innermost place does not contract by itself.
 fn frame_step(alloc: Global, mut frames: Vec<Frame>, focus: Term) -> Result<Step, MemoryError>
     requires { Waits frames.items (term focus) }
-    ensures { IfOk result (λ s. (E : Env) → head_step E (term focus) ≡ None → StepsTo E (plug_all frames.items (term focus)) s) }
+    ensures { IfOk result (λ s. (E : Env) → head_step E (term focus) ≡ None →
+        StepsTo E (plug_all frames.items (term focus)) s) }
 {
     match frames.pop() {
         Some(frame) => match frame_contracted(alloc, &frame, &focus)? {
@@ -67,7 +68,8 @@ fn frame_step(alloc: Global, mut frames: Vec<Frame>, focus: Term) -> Result<Step
     }
 }
 
-/// The term with what a contraction gave in the innermost place. A literal goes back into its frame, since a primitive goes on past it.
+/// The term with what a contraction gave in the innermost place. A literal goes back into its
+/// frame, since a primitive goes on past it.
 fn resumed(alloc: Global, mut frames: Vec<Frame>, contracted: Term) -> Result<Spine, MemoryError>
     ensures whole { IfOk result (λ s. whole s ≡ plug_all frames.items (term contracted)) }
     ensures settled { IfOk result (λ s. IsSettled s) }

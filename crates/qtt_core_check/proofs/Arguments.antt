@@ -5,14 +5,15 @@ use Rattle.std.proofs.lemmas.Bool.{eqb-true, and_parts}
 use Rattle.qtt_base.specs.declared.place.GlobalId.{GlobalId}
 use Rattle.qtt_usage.specs.declared.mult.Mult.{Mult}
 use Rattle.qtt_usage.specs.Mult.{𝟘, ◌⊕◌, ◌⊙◌}
-use Rattle.qtt_usage.specs.Uses.{Key}
+use Rattle.qtt_usage.specs.Uses.{Key, zero_use}
 use Rattle.qtt_usage.specs.Usage.{usage_sum, usage_scale, no_usage, use_of}
 use Rattle.qtt_usage.proofs.Mults.{⊕-zero}
 use Rattle.qtt_usage.proofs.UsageLemmas.{none_at, sum_at, scale_at}
 use Rattle.qtt_term.specs.Term.{Named, Form, Term, Terms, node, ε, ◌▸◌, size, Sort, Fam}
 use Rattle.qtt_term.specs.Substitution.{sub, cons, push, closed}
-use Rattle.qtt_term.specs.Signature.{Tele, ConSig, Env, There, NamedThere, signature, fam_at}
-use Rattle.qtt_term.specs.Judgement.{Ctx, IsCon, Part, under, Judged, judged, sum_of, scale, erase_binds, Args, ParamsThenArgs, Rule, TypedAll}
+use Rattle.qtt_term.specs.Signature.{Tele, ConSig, Env, There, NamedThere, type_arguments, signature, fam_at}
+use Rattle.qtt_term.specs.Judgement.{Ctx, IsCon, Part, under, Judged, judged, sum_of, total, scale, erase_binds, Args, ParamsThenArgs, Rule}
+use Rattle.qtt_term.specs.Accepted.{live, AcceptsAll}
 use Rattle.qtt_term.specs.Environment.{NoTapes}
 use Rattle.qtt_term.specs.Ask.{Ask, ◌>>=◌, Ending, Ends}
 use Rattle.qtt_term.specs.Infer.{Premise, at, Inferred, inferred, need, is_there, usable, named_there, Wanted, wanted, family_wants, constructor_wants, arguments, constructor_at, rule_of}
@@ -49,7 +50,7 @@ tele_of-append (w ∷ ws) vs = ap (λ Θ. (w.mult, w.type) ∷ Θ) (tele_of-appe
 pub record Argued (E : Env) (p : Part) (Γ : Ctx) (Θ : Tele) (σ : ℕ → Term) (ts : Terms) (us : List Mult) : Type 0 where
   pub judged_so : List Judged
   pub args : Args Θ σ ts judged_so
-  pub typed : TypedAll E p Γ [] ts judged_so
+  pub accepted : AcceptsAll E p Γ [] ts judged_so
   pub counts : (x : Key) → Counts (NoTapes ts) x → sum_of judged_so x ≡ use_of us x
   pub counted : length us ≡ length Γ
   pub nothing : IsErased p → IsNothing us
@@ -58,28 +59,32 @@ no-arguments : {E : Env} (p : Part) (Γ : Ctx) (σ : ℕ → Term) → Argued E 
 no-arguments p Γ σ = record {
   judged_so = [];
   args = Args.none;
-  typed = TypedAll.none;
+  accepted = AcceptsAll.none;
   counts = λ x c. sym (none_at (length Γ) x);
   counted = length-none (length Γ);
   nothing = λ i. nothing-used (length Γ);
 }
 
-one-more : {E : Env} (p : Part) (Γ : Ctx) (q : Mult) (T : Term) (Θ : Tele) (σ : ℕ → Term) (a : Term) (ts : Terms) (us ws : List Mult) →
-    Derived E (under p q) Γ a (sub σ T) us → Argued E p Γ Θ (cons a σ) ts ws → Argued E p Γ ((q, T) ∷ Θ) σ (a ▸ ts) (usage_sum (usage_scale q us) ws)
+one-more : {E : Env} (p : Part) (Γ : Ctx) (q : Mult) (T : Term) (Θ : Tele) (σ : ℕ → Term) (a : Term) (ts : Terms)
+    (us ws : List Mult) →
+    Derived E (under p q) Γ a (sub σ T) us → Argued E p Γ Θ (cons a σ) ts ws →
+    Argued E p Γ ((q, T) ∷ Θ) σ (a ▸ ts) (usage_sum (usage_scale q us) ws)
 one-more p Γ q T Θ σ a ts us ws d r =
     let l = length-scaled q us ∙ d.counted in
     record {
       judged_so = judged [] (sub σ T) q d.use_of_term ∷ r.judged_so;
       args = Args.more r.args;
-      typed = TypedAll.more refl d.typed (always (under p q) tt) r.typed;
+      accepted = AcceptsAll.more refl d.accepted (always (under p q) (λ e. tt)) r.accepted;
       counts = λ x c.
           ap₂ (λ m n. q ⊙ m ⊕ n) (d.counts x (counts-in (λ n. n.0) x c)) (r.counts x (counts-in (λ n. n.1) x c))
           ∙ sym (sum_at (usage_scale q us) ws x (l ∙ sym r.counted) ∙ ap (λ m. m ⊕ use_of ws x) (scale_at q us x));
       counted = length-sum (usage_scale q us) ws (length Γ) l r.counted;
-      nothing = λ i. nothing-sum (usage_scale q us) ws (l ∙ sym r.counted) (nothing-scaled q us (d.nothing (erased-under p q i))) (r.nothing i);
+      nothing = λ i. nothing-sum (usage_scale q us) ws (l ∙ sym r.counted)
+          (nothing-scaled q us (d.nothing (erased-under p q i))) (r.nothing i);
     }
 
-pub argued : {E : Env} (ts : Terms) → AllGive E ts → (p : Part) (Γ : Ctx) (ws : List Wanted) (σ : ℕ → Term) (us : List Mult) → size ts ≡ length ws →
+pub argued : {E : Env} (ts : Terms) → AllGive E ts →
+    (p : Part) (Γ : Ctx) (ws : List Wanted) (σ : ℕ → Term) (us : List Mult) → size ts ≡ length ws →
     Ends E (arguments E p Γ ws σ ts) (Ending.ok us) → Argued E p Γ (tele_of ws) σ ts us
 argued {E} ε g p Γ [] σ us s x = subst (Argued E p Γ [] σ ε) (ended _ _ x) (no-arguments p Γ σ)
 argued ε g p Γ (w ∷ ws) σ us s x = absurd (cc s)
@@ -88,8 +93,19 @@ argued {E} (t ▸ ts) g p Γ (w ∷ ws) σ us s x =
     let a = parts _ _ _ x in
     let b = parts _ _ _ a.after in
     subst (Argued E p Γ (tele_of (w ∷ ws)) σ (t ▸ ts)) (ended _ _ b.after)
-    (one-more p Γ w.mult w.type (tele_of ws) σ t ts a.mid b.mid (had (under p w.mult) Γ t (sub σ w.type) _ a.mid g.0 a.first)
+    (one-more p Γ w.mult w.type (tele_of ws) σ t ts a.mid b.mid
+    (had (under p w.mult) Γ t (sub σ w.type) _ a.mid g.0 a.first)
     (argued ts g.1 p Γ ws (cons t σ) b.mid (cc s) b.first))
+
+-- arguments are no branches, so that each has its part in the use of a form
+live-args : {Θ : Tele} {σ : ℕ → Term} {ts : Terms} {js : List Judged} → Args Θ σ ts js → live ts js ≡ js
+live-args Args.none = refl
+live-args (Args.more {q = q} {T = T} {σ = σ} {u = u} a) = ap (λ js. judged [] (sub σ T) q u ∷ js) (live-args a)
+
+total-args : {Θ : Tele} {σ : ℕ → Term} {ts : Terms} {js : List Judged} → Args Θ σ ts js → (x : Key) →
+    total zero_use (live ts js) x ≡ sum_of js x
+total-args {js = js} a x =
+    ap (λ ks. total zero_use ks x) (live-args a) ∙ ap (λ m. sum_of js x ⊕ m) (no_branch a x) ∙ ⊕-zero (sum_of js x)
 
 -- erased parameters first
 params-first : (Ξ Θ : Tele) (σ : ℕ → Term) (ts : Terms) (js : List Judged) (S : Term) → Args (scale 𝟘 Θ ++ Ξ) σ ts js →
@@ -97,7 +113,8 @@ params-first : (Ξ Θ : Tele) (σ : ℕ → Term) (ts : Terms) (js : List Judged
 params-first Ξ [] σ ts js S a = ParamsThenArgs.done a
 params-first Ξ (b ∷ Θ) σ ε js S a = elim a [ ]
 params-first Ξ (b ∷ Θ) σ (t ▸ ts) [] S a = elim a [ ]
-params-first Ξ (b ∷ Θ) σ (t ▸ ts) (j ∷ js) S (Args.more a) = ParamsThenArgs.param (params-first Ξ Θ (cons t σ) ts js S a)
+params-first Ξ (b ∷ Θ) σ (t ▸ ts) (j ∷ js) S (Args.more a) =
+    ParamsThenArgs.param (params-first Ξ Θ (cons t σ) ts js S a)
 
 pub scale-append : (q : Mult) (Θ Ξ : Tele) → scale q (Θ ++ Ξ) ≡ scale q Θ ++ scale q Ξ
 scale-append q [] Ξ = refl
@@ -118,47 +135,60 @@ is-named E (Named.def d) e = is-there (E.definition d) e
 is-named E (Named.lit l) e = tt
 is-named E (Named.prim_ty r) e = tt
 is-named E (Named.prim r) e = tt
-is-named E (Named.act a) e = tt
+is-named E (Named.act a k) e = eqb-true k (type_arguments a) e
 
 module _ {E : Env} where
   fam-derived : (p : Part) (Γ : Ctx) (f : GlobalId) (ts : Terms) (us : List Mult) → There (E.family f) →
-      Argued E p Γ (scale 𝟘 (fam_at E f).params ++ scale 𝟘 (fam_at E f).indices) closed ts us → Derived E p Γ (Fam f ts) (Sort (fam_at E f).level) us
+      Argued E p Γ (scale 𝟘 (fam_at E f).params ++ scale 𝟘 (fam_at E f).indices) closed ts us →
+      Derived E p Γ (Fam f ts) (Sort (fam_at E f).level) us
   fam-derived p Γ f ts us h r =
-      by-rule p (Rule.fam h (params-first (erase_binds (fam_at E f).indices) (fam_at E f).params closed ts r.judged_so (Sort (fam_at E f).level) r.args)) r.typed r.counted r.nothing
-      (λ x c. ap (λ m. sum_of r.judged_so x ⊕ m) (no_branch r.args x) ∙ ⊕-zero (sum_of r.judged_so x) ∙ r.counts x (counts-in (λ n. n.1) x c))
+      by-rule p (Rule.fam h
+      (params-first (erase_binds (fam_at E f).indices) (fam_at E f).params closed ts r.judged_so
+      (Sort (fam_at E f).level) r.args)) tt r.accepted r.counted r.nothing
+      (λ x c. total-args r.args x ∙ r.counts x (counts-in (λ n. n.1) x c))
 
   pub fam-gives : (f : GlobalId) (ts : Terms) → AllGive E ts → Gives E (Fam f ts)
   fam-gives f ts g p Γ j x =
       let a = parts _ _ _ x in
       let b = parts _ _ _ a.after in
       let S = fam_at E f in
-      let (h, s) = and_parts (is_there (E.family f)) (eqb (size ts) (length (family_wants (fam_at E f)))) (holding _ _ a.mid a.first) in
+      let (h, s) = and_parts (is_there (E.family f)) (eqb (size ts) (length (family_wants (fam_at E f))))
+      (holding _ _ a.mid a.first) in
       let r = argued ts g p Γ (family_wants (fam_at E f)) closed b.mid (eqb-true (size ts) _ s) b.first in
       subst (λ j. Derived E p Γ (Fam f ts) j.type j.uses) (ended _ _ b.after)
       (fam-derived p Γ f ts b.mid (is-there (E.family f) h)
       (subst (λ Θ. Argued E p Γ Θ closed ts b.mid)
-      (tele_of-wanted _ (erase_binds ((fam_at E f).params ++ (fam_at E f).indices)) ∙ scale-append 𝟘 (fam_at E f).params (fam_at E f).indices) r))
+      (tele_of-wanted _ (erase_binds ((fam_at E f).params ++ (fam_at E f).indices))
+      ∙ scale-append 𝟘 (fam_at E f).params (fam_at E f).indices) r))
 
-  con-derived : (p : Part) (Γ : Ctx) (f : GlobalId) (n : ℕ) (c : ConSig) (ts : Terms) (us : List Mult) → IsCon (fam_at E f).constructors n c →
+  con-derived : (p : Part) (Γ : Ctx) (f : GlobalId) (n : ℕ) (c : ConSig) (ts : Terms) (us : List Mult) →
+      IsCon (fam_at E f).constructors n c →
       Argued E p Γ (scale 𝟘 (fam_at E f).params ++ c.fields) closed ts us →
       Derived E p Γ (node (Form.con f n (length (fam_at E f).params)) ts) (sub (push ts closed) c.result) us
   con-derived p Γ f n c ts us h r =
-      by-rule p (Rule.con h (params-first c.fields (fam_at E f).params closed ts r.judged_so c.result r.args)) r.typed r.counted r.nothing
-      (λ x k. ap (λ m. sum_of r.judged_so x ⊕ m) (no_branch r.args x) ∙ ⊕-zero (sum_of r.judged_so x) ∙ r.counts x (counts-in (λ n. n.1) x k))
+      by-rule p (Rule.con h (params-first c.fields (fam_at E f).params closed ts r.judged_so c.result r.args)) tt
+      r.accepted r.counted r.nothing
+      (λ x k. total-args r.args x ∙ r.counts x (counts-in (λ n. n.1) x k))
 
-  con-found : (f : GlobalId) (n k : ℕ) (ts : Terms) → AllGive E ts → (p : Part) (Γ : Ctx) (j : Inferred) (o : Option ConSig) →
+  con-found : (f : GlobalId) (n k : ℕ) (ts : Terms) → AllGive E ts →
+      (p : Part) (Γ : Ctx) (j : Inferred) (o : Option ConSig) →
       slice_get (fam_at E f).constructors n ≡ o →
-      Ends E (constructor_at o (λ c. need (eqb k (length (fam_at E f).params) && eqb (size ts) (length (constructor_wants (fam_at E f) c))) (at rule.Con 1)
-      >>= (λ s. arguments E p Γ (constructor_wants (fam_at E f) c) closed ts >>= (λ u. Ask.done (inferred (sub (push ts closed) c.result) u))))) (Ending.ok j) →
+      Ends E (constructor_at o
+      (λ c. need (eqb k (length (fam_at E f).params) && eqb (size ts) (length (constructor_wants (fam_at E f) c)))
+      (at rule.Con 1)
+      >>= (λ s. arguments E p Γ (constructor_wants (fam_at E f) c) closed ts >>=
+      (λ u. Ask.done (inferred (sub (push ts closed) c.result) u))))) (Ending.ok j) →
       Derived E p Γ (node (Form.con f n k) ts) j.type j.uses
   con-found f n k ts g p Γ j None e x = absurd (never x)
   con-found f n k ts g p Γ j (Some c) e x =
       let a = parts _ _ _ x in
       let b = parts _ _ _ a.after in
-      let (h, s) = and_parts (eqb k (length (fam_at E f).params)) (eqb (size ts) (length (constructor_wants (fam_at E f) c))) (holding _ _ a.mid a.first) in
+      let (h, s) = and_parts (eqb k (length (fam_at E f).params))
+      (eqb (size ts) (length (constructor_wants (fam_at E f) c))) (holding _ _ a.mid a.first) in
       let r = argued ts g p Γ (constructor_wants (fam_at E f) c) closed b.mid (eqb-true (size ts) _ s) b.first in
       subst (λ j. Derived E p Γ (node (Form.con f n k) ts) j.type j.uses) (ended _ _ b.after)
-      (subst (λ k. Derived E p Γ (node (Form.con f n k) ts) (sub (push ts closed) c.result) b.mid) (sym (eqb-true k _ h))
+      (subst (λ k. Derived E p Γ (node (Form.con f n k) ts) (sub (push ts closed) c.result) b.mid)
+      (sym (eqb-true k _ h))
       (con-derived p Γ f n c ts b.mid (is-con (fam_at E f).constructors n c e)
       (subst (λ Θ. Argued E p Γ Θ closed ts b.mid)
       (tele_of-append (wanted (at rule.Con 1) (erase_binds (fam_at E f).params)) (wanted (at rule.Con 2) c.fields)
@@ -171,10 +201,14 @@ module _ {E : Env} where
   named-gives n ts g p Γ j x =
       let a = parts _ _ _ x in
       let b = parts _ _ _ a.after in
-      let (h, w) = and_parts (named_there E n) (usable p (signature E n).mult && eqb (size ts) (length (signature E n).arguments)) (holding _ _ a.mid a.first) in
+      let (h, w) = and_parts (named_there E n)
+      (usable p (signature E n).mult && eqb (size ts) (length (signature E n).arguments))
+      (holding _ _ a.mid a.first) in
       let (m, s) = and_parts (usable p (signature E n).mult) (eqb (size ts) (length (signature E n).arguments)) w in
-      let r = argued ts g p Γ (wanted (at (rule_of n) 1) (signature E n).arguments) closed b.mid (eqb-true (size ts) _ s ∙ sym (length-wanted _ (signature E n).arguments)) b.first in
+      let r = argued ts g p Γ (wanted (at (rule_of n) 1) (signature E n).arguments) closed b.mid
+      (eqb-true (size ts) _ s ∙ sym (length-wanted _ (signature E n).arguments)) b.first in
       let q = subst (λ Θ. Argued E p Γ Θ closed ts b.mid) (tele_of-wanted _ (signature E n).arguments) r in
       subst (λ j. Derived E p Γ (node (Form.named n) ts) j.type j.uses) (ended _ _ b.after)
-      (by-rule p (Rule.named (is-named E n h) (is-usable p (signature E n).mult m) q.args) q.typed q.counted q.nothing
-      (λ x k. ap (λ m. sum_of q.judged_so x ⊕ m) (no_branch q.args x) ∙ ⊕-zero (sum_of q.judged_so x) ∙ q.counts x (counts-in (λ n. n.1) x k)))
+      (by-rule p (Rule.named (is-named E n h) (is-usable p (signature E n).mult m) q.args) tt q.accepted q.counted
+      q.nothing
+      (λ x k. total-args q.args x ∙ q.counts x (counts-in (λ n. n.1) x k)))

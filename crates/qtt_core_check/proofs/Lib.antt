@@ -8,7 +8,10 @@ pub mod Joins
 pub mod Branching
 pub mod Sound
 pub mod OneType
+pub mod Asked
 pub mod OneUse
+pub mod Acceptance
+pub mod Worked
 pub mod Heads
 pub mod Clean
 pub mod CleanCase
@@ -30,4 +33,3 @@ pub mod Places
 pub mod Applied
 pub mod CaseRows
 pub mod Contexts
-pub mod Additions

@@ -34,17 +34,20 @@ pub length-ext : (Γ : Ctx) (Θ : Tele) → length (ext Γ Θ) ≡ length Θ + l
 length-ext Γ [] = omega arith
 length-ext Γ (b ∷ Θ) = length-ext (b ∷ Γ) Θ ∙ omega arith
 
-pub length-open : (Γ : Ctx) (Θ : Tele) (us : List Mult) → length us ≡ length (ext Γ Θ) → length (drop (length Θ) us) ≡ length Γ
+pub length-open : (Γ : Ctx) (Θ : Tele) (us : List Mult) → length us ≡ length (ext Γ Θ) →
+    length (drop (length Θ) us) ≡ length Γ
 length-open Γ Θ us e = length-drop (length Θ) us ∙ omega (arith, length-ext Γ Θ)
 
 -- ---- what uses nothing
 abbrev pub IsNothing : List Mult → Type 0
 IsNothing us = (x : Key) → use_of us x ≡ 𝟘
 
-pub nothing-sum : (us ws : List Mult) → length us ≡ length ws → IsNothing us → IsNothing ws → IsNothing (usage_sum us ws)
+pub nothing-sum : (us ws : List Mult) → length us ≡ length ws → IsNothing us → IsNothing ws →
+    IsNothing (usage_sum us ws)
 nothing-sum us ws e h k x = sum_at us ws x e ∙ rw (h x, k x) refl
 
-pub nothing-join : (us ws : List Mult) → length us ≡ length ws → IsNothing us → IsNothing ws → IsNothing (usage_join us ws)
+pub nothing-join : (us ws : List Mult) → length us ≡ length ws → IsNothing us → IsNothing ws →
+    IsNothing (usage_join us ws)
 nothing-join us ws e h k x = join_at us ws x e ∙ rw (h x, k x) refl
 
 pub nothing-scaled : (q : Mult) (us : List Mult) → IsNothing us → IsNothing (usage_scale q us)
@@ -78,7 +81,8 @@ counts-in f (Key.v i) c = tt
 counts-in f (Key.h i) c = f c
 
 -- two uses agree without binders where they agree with them
-pub outs-as : {N : Type 0} (n : ℕ) (u w : Use) (x : Key) → ((y : Key) → Counts N y → u y ≡ w y) → Counts N x → outs n u x ≡ outs n w x
+pub outs-as : {N : Type 0} (n : ℕ) (u w : Use) (x : Key) → ((y : Key) → Counts N y → u y ≡ w y) → Counts N x →
+    outs n u x ≡ outs n w x
 outs-as n u w (Key.v i) h c = outs-v n i u ∙ h (Key.v (n + i)) tt ∙ sym (outs-v n i w)
 outs-as n u w (Key.h i) h c = outs-h n i u ∙ h (Key.h i) c ∙ sym (outs-h n i w)
 
@@ -101,19 +105,24 @@ at_newest Θ us = opened_at Θ us (Key.v 0)
 -- only the uses of variables matter
 fit-as : (Θ : Tele) (w u : Use) → ((i : ℕ) → u (Key.v i) ≡ w (Key.v i)) → BindersFit Θ w → BindersFit Θ u
 fit-as [] w u h f = tt
-fit-as (b ∷ Θ) w u h f =
-    (subst (λ m. m ≼ b.0) (outs-v (length Θ) 0 w ∙ sym (h (length Θ + 0)) ∙ sym (outs-v (length Θ) 0 u)) f.0, fit-as Θ w u h f.1)
+fit-as (b ∷ Θ) w u h f = (
+  subst (λ m. m ≼ b.0) (outs-v (length Θ) 0 w ∙ sym (h (length Θ + 0)) ∙ sym (outs-v (length Θ) 0 u)) f.0,
+  fit-as Θ
+      w u h f.1,
+)
 
 fit-onto : (qs : List Mult) (Θ : Tele) (us : List Mult) → binders_fit (mults_onto qs Θ) us ≡ true →
     BindersFit Θ (use_of us) × (binders_fit qs (drop (length Θ) us) ≡ true)
 fit-onto qs [] us e = (tt, e)
 fit-onto qs (b ∷ Θ) us e =
     let (f, d) = fit-onto (b.0 ∷ qs) Θ us e in
-    let (g, k) = and_parts (fits (usage_at (drop (length Θ) us) 0) b.0) (binders_fit qs (drop 1 (drop (length Θ) us))) d in
+    let (g, k) = and_parts (fits (usage_at (drop (length Θ) us) 0) b.0) (binders_fit qs (drop 1 (drop (length Θ) us)))
+    d in
     let a : outs (length Θ) (use_of us) (Key.v 0) ≼ b.0 = subst (λ m. m ≼ b.0) (at_newest Θ us) (is-below _ _ g) in
     ((a, f), subst (λ ws. binders_fit qs ws ≡ true) (drop-more (length Θ) us) k)
 
-pub binders-fit : (Θ : Tele) (us : List Mult) (u : Use) → binders_fit (mults_onto [] Θ) us ≡ true → ((i : ℕ) → u (Key.v i) ≡ usage_at us i) → BindersFit Θ u
+pub binders-fit : (Θ : Tele) (us : List Mult) (u : Use) → binders_fit (mults_onto [] Θ) us ≡ true →
+    ((i : ℕ) → u (Key.v i) ≡ usage_at us i) → BindersFit Θ u
 binders-fit Θ us u e h = fit-as Θ (use_of us) u h (fit-onto [] Θ us e).0
 
 -- ---- a use that fits binders
@@ -140,11 +149,13 @@ fill-fits (b ∷ Θ) d =
     (subst (λ m. m ≼ b.0) (sym (fill-out Θ (behind b.0 d) (Key.v 0))) (≼-refl b.0), fill-fits Θ (behind b.0 d))
 
 -- ---- and the other way: uses that fit pass the test
-pub onto-fit : (qs : List Mult) (Θ : Tele) (us : List Mult) → BindersFit Θ (use_of us) → binders_fit qs (drop (length Θ) us) ≡ true →
+pub onto-fit : (qs : List Mult) (Θ : Tele) (us : List Mult) → BindersFit Θ (use_of us) →
+    binders_fit qs (drop (length Θ) us) ≡ true →
     binders_fit (mults_onto qs Θ) us ≡ true
 onto-fit qs [] us f e = e
 onto-fit qs (b ∷ Θ) us f e =
-    let a : fits (usage_at (drop (length Θ) us) 0) b.0 ≡ true = is-fit _ _ (subst (λ m. m ≼ b.0) (sym (at_newest Θ us)) f.0) in
+    let a : fits (usage_at (drop (length Θ) us) 0) b.0 ≡ true =
+    is-fit _ _ (subst (λ m. m ≼ b.0) (sym (at_newest Θ us)) f.0) in
     onto-fit (b.0 ∷ qs) Θ us f.1 (rw (a, drop-more (length Θ) us) e)
   where
     is-fit : (u q : Mult) → u ≼ q → fits u q ≡ true

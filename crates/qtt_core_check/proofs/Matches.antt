@@ -17,7 +17,8 @@ use Rattle.qtt_term.specs.Judgement.{Part}
 use Rattle.qtt_term.specs.Items.{family, constructor, field}
 use Rattle.qtt_term.specs.Question.{same_counts}
 use Rattle.qtt_term.specs.View.{term, terms, branch, branches, side_by_side}
-use Rattle.qtt_term.specs.Infer.{Premise, field_counts, binders_fit, mults_onto, is_dead, unbound}
+use Rattle.qtt_term.specs.Accepted.{is_dead}
+use Rattle.qtt_term.specs.Infer.{Premise, field_counts, binders_fit, mults_onto, unbound}
 use Rattle.qtt_core_check.specs.Filled.{tele}
 use Rattle.qtt_core_check.specs.Cases.{shaped, fits_within}
 use Rattle.qtt_core_check.specs.Seen.{Reaches, Fails}
@@ -52,26 +53,32 @@ binders_of bs = map (λ b. b.0) (branches bs)
 abbrev pub fields_of : List code_constructor.Constructor → List ℕ
 fields_of cs = map (λ c. length c.fields.items) cs
 
-pub counts-at : (bs : List code_branch.Branch) (cs : List code_constructor.Constructor) (k : ℕ) (x : code_branch.Branch) (y : code_constructor.Constructor) →
+pub counts-at : (bs : List code_branch.Branch) (cs : List code_constructor.Constructor) (k : ℕ)
+    (x : code_branch.Branch) (y : code_constructor.Constructor) →
     k < length bs → k < length cs → x ≡ get_or bs k x → y ≡ get_or cs k y →
     same_counts (binders_of (drop k bs)) (fields_of (drop k cs))
     ≡ same_counts ((branch x).0 ∷ binders_of (drop (k + 1) bs)) (length y.fields.items ∷ fields_of (drop (k + 1) cs))
 counts-at bs cs k x y h i d e =
     let s : suc k ≡ k + 1 = omega arith in
     ap₂ (λ bs cs. same_counts (binders_of bs) (fields_of cs))
-    (drop-cons bs k x h ∙ ap₂ (λ x j. x ∷ drop j bs) (sym d) s) (drop-cons cs k y i ∙ ap₂ (λ y j. y ∷ drop j cs) (sym e) s)
+    (drop-cons bs k x h ∙ ap₂ (λ x j. x ∷ drop j bs) (sym d) s)
+    (drop-cons cs k y i ∙ ap₂ (λ y j. y ∷ drop j cs) (sym e) s)
 
-pub counts-end : (bs : List code_branch.Branch) (cs : List code_constructor.Constructor) (k : ℕ) → length bs ≤ k → length cs ≤ k →
+pub counts-end : (bs : List code_branch.Branch) (cs : List code_constructor.Constructor) (k : ℕ) → length bs ≤ k →
+    length cs ≤ k →
     same_counts (binders_of (drop k bs)) (fields_of (drop k cs)) ≡ true
 counts-end bs cs k h i = ap₂ (λ bs cs. same_counts (binders_of bs) (fields_of cs)) (drop_all k bs h) (drop_all k cs i)
 
-pub counts-unequal : (bs : List code_branch.Branch) (cs : List code_constructor.Constructor) → (length bs ≡ length cs → ⊥) →
+pub counts-unequal : (bs : List code_branch.Branch) (cs : List code_constructor.Constructor) →
+    (length bs ≡ length cs → ⊥) →
     same_counts (binders_of bs) (fields_of cs) ≡ false
 counts-unequal bs cs h =
     counts-lengths (binders_of bs) (fields_of cs)
-    (λ e. h (sym (length-map (branches bs) (λ b. b.0) ∙ length-map bs branch) ∙ e ∙ length-map cs (λ c. length c.fields.items)))
+    (λ e. h (sym (length-map (branches bs) (λ b. b.0) ∙ length-map bs branch) ∙ e ∙ length-map cs
+    (λ c. length c.fields.items)))
 
-pub sig-fields : (f : GlobalId) (k n : ℕ) (cs : List Constructor) → field_counts (con_sigs f k n cs) ≡ map (λ c. length c.fields) cs
+pub sig-fields : (f : GlobalId) (k n : ℕ) (cs : List Constructor) →
+    field_counts (con_sigs f k n cs) ≡ map (λ c. length c.fields) cs
 sig-fields f k n [] = refl
 sig-fields f k n (c ∷ cs) = ap (λ ns. length c.fields ∷ ns) (sig-fields f k (suc n) cs)
 
@@ -94,17 +101,23 @@ eqb-one i n = by_test (eqb i n) refl
 -- the shape of a Case, as the code tests it
 pub shape-seen : (f : GlobalId) (F : code_family.Family) (k i : ℕ) (ns : List ℕ) →
     shaped (fam_sig f (family F)) k (i + 1) ns
-    ≡ (eqb k (length F.params.items) && (eqb i (length F.indices.items) && same_counts ns (fields_of F.constructors.items)))
+    ≡ (eqb k (length F.params.items) &&
+    (eqb i (length F.indices.items) && same_counts ns (fields_of F.constructors.items)))
 shape-seen f F k i ns =
-    let p : length (family F).params ≡ length F.params.items = length-map (terms F.params.items) (λ t. (𝟘, t)) ∙ length-map F.params.items term in
+    let p : length (family F).params ≡ length F.params.items =
+    length-map (terms F.params.items) (λ t. (𝟘, t)) ∙ length-map F.params.items term in
     let m : length (fam_sig f (family F)).motive ≡ length F.indices.items + 1 =
     length-append (index_binders 0 (terms F.indices.items)) ((ω, self_of f (family F)) ∷ [])
     ∙ ap (λ n. n + 1) (length-indices 0 (terms F.indices.items) ∙ length-map F.indices.items term) in
-    let c : field_counts (con_sigs f (length (family F).params) 0 (map constructor F.constructors.items)) ≡ fields_of F.constructors.items =
-    sig-fields f (length (family F).params) 0 (map constructor F.constructors.items) ∙ code-fields F.constructors.items in
-    ap₂ (λ a b. a && b) (ap (eqb k) p) (ap₂ (λ a b. a && b) (ap (eqb (i + 1)) m ∙ eqb-one i (length F.indices.items)) (ap (same_counts ns) c))
+    let c : field_counts (con_sigs f (length (family F).params) 0 (map constructor F.constructors.items)) ≡
+    fields_of F.constructors.items =
+    sig-fields f (length (family F).params) 0 (map constructor F.constructors.items) ∙
+    code-fields F.constructors.items in
+    ap₂ (λ a b. a && b) (ap (eqb k) p)
+    (ap₂ (λ a b. a && b) (ap (eqb (i + 1)) m ∙ eqb-one i (length F.indices.items)) (ap (same_counts ns) c))
   where
-    code-fields : (cs : List code_constructor.Constructor) → map (λ c. length c.fields) (map constructor cs) ≡ fields_of cs
+    code-fields : (cs : List code_constructor.Constructor) →
+        map (λ c. length c.fields) (map constructor cs) ≡ fields_of cs
     code-fields [] = refl
     code-fields (c ∷ cs) = ap₂ (λ n ns. n ∷ ns) (length-map c.fields.items field) (code-fields cs)
 
@@ -113,13 +126,16 @@ cond-or : (d f : Bool) → cond d true f ≡ (d || f)
 cond-or true f = refl
 cond-or false f = refl
 
-pub unbound-unfit : {E : Env} {n : ℕ} (p : Part) (Θ : Tele) (b : Term) (us : List Mult) (r : Premise) → fits_within p b (binders_fit (mults_onto [] Θ) us) ≡ false →
+pub unbound-unfit : {E : Env} {n : ℕ} (p : Part) (Θ : Tele) (b : Term) (us : List Mult) (r : Premise) →
+    fits_within p b (binders_fit (mults_onto [] Θ) us) ≡ false →
     Fails E n (unbound p Θ b us r) r
 unfolding unbound
 unbound-unfit Part.erased Θ b us r e = absurd (cc e)
-unbound-unfit Part.run Θ b us r e = fails_here _ (unmet _ _ (cond-or (is_dead b) (binders_fit (mults_onto [] Θ) us) ∙ e))
+unbound-unfit Part.run Θ b us r e =
+    fails_here _ (unmet _ _ (cond-or (is_dead b) (binders_fit (mults_onto [] Θ) us) ∙ e))
 
-pub unbound-fit : {E : Env} {n : ℕ} (p : Part) (Θ : Tele) (b : Term) (us : List Mult) (r : Premise) → fits_within p b (binders_fit (mults_onto [] Θ) us) ≡ true →
+pub unbound-fit : {E : Env} {n : ℕ} (p : Part) (Θ : Tele) (b : Term) (us : List Mult) (r : Premise) →
+    fits_within p b (binders_fit (mults_onto [] Θ) us) ≡ true →
     Reaches E n (unbound p Θ b us r) (drop (length Θ) us)
 unfolding unbound
 unbound-fit Part.erased Θ b us r e = on_done
@@ -144,17 +160,22 @@ drop-next k xs ys y e = let s : suc k ≡ k + 1 = omega arith in tail-of k xs ys
     tail-of (suc k) (x ∷ xs) ys y e = tail-of k xs ys y e
 
 -- the newest of the first n - k binders
-newest-binder : (bs : List (Mult × code.Term)) (b : Mult × code.Term) (k : ℕ) → k < length bs → b ≡ get_or bs (length bs - 1 - k) b →
+newest-binder : (bs : List (Mult × code.Term)) (b : Mult × code.Term) (k : ℕ) → k < length bs →
+    b ≡ get_or bs (length bs - 1 - k) b →
     mults_onto [] (tele (take (length bs - k) bs)) ≡ b.0 ∷ mults_onto [] (tele (take (length bs - (k + 1)) bs))
 newest-binder bs b k h e =
     let s : length bs - k ≡ (length bs - 1 - k) + 1 = omega arith in
     let j : length bs - 1 - k ≡ length bs - (k + 1) = omega arith in
     let t : take (length bs - k) bs ≡ take (length bs - 1 - k) bs ++ b ∷ [] =
-    ap (λ n. take n bs) s ∙ take_more bs (length bs - 1 - k) b (omega arith) ∙ ap (λ x. take (length bs - 1 - k) bs ++ x ∷ []) (sym e) in
-    ap (λ bs. mults_onto [] (tele bs)) t ∙ ap (mults_onto []) (map-append (λ b. (b.0, term b.1)) (take (length bs - 1 - k) bs) (b ∷ []))
-    ∙ mults-last [] (tele (take (length bs - 1 - k) bs)) (b.0, term b.1) ∙ ap (λ n. b.0 ∷ mults_onto [] (tele (take n bs))) j
+    ap (λ n. take n bs) s ∙ take_more bs (length bs - 1 - k) b (omega arith) ∙
+    ap (λ x. take (length bs - 1 - k) bs ++ x ∷ []) (sym e) in
+    ap (λ bs. mults_onto [] (tele bs)) t ∙ ap (mults_onto [])
+    (map-append (λ b. (b.0, term b.1)) (take (length bs - 1 - k) bs) (b ∷ []))
+    ∙ mults-last [] (tele (take (length bs - 1 - k) bs)) (b.0, term b.1) ∙
+    ap (λ n. b.0 ∷ mults_onto [] (tele (take n bs))) j
 
-pub fit-next : (bs : List (Mult × code.Term)) (b : Mult × code.Term) (k : ℕ) (us ws all : List Mult) (u : Mult) (fit more G : Bool) → k < length bs →
+pub fit-next : (bs : List (Mult × code.Term)) (b : Mult × code.Term) (k : ℕ) (us ws all : List Mult) (u : Mult)
+    (fit more G : Bool) → k < length bs →
     b ≡ get_or bs (length bs - 1 - k) b → us ≡ u ∷ ws → us ≡ drop k all → more ≡ (fit && fits u b.0) →
     (fit && binders_fit (mults_onto [] (tele (take (length bs - k) bs))) us) ≡ G →
     ((more && binders_fit (mults_onto [] (tele (take (length bs - (k + 1)) bs))) ws) ≡ G) × (ws ≡ drop (k + 1) all)
@@ -165,8 +186,10 @@ fit-next bs b k us ws all u fit more G h e d a m so = (
   drop-next k all ws u (sym d ∙ a),
 )
 
-pub fit-all : (bs : List (Mult × code.Term)) (k : ℕ) (us all : List Mult) (fit G : Bool) → k ≡ length bs → us ≡ drop k all →
-    (fit && binders_fit (mults_onto [] (tele (take (length bs - k) bs))) us) ≡ G → (fit ≡ G) × (us ≡ drop (length (tele bs)) all)
+pub fit-all : (bs : List (Mult × code.Term)) (k : ℕ) (us all : List Mult) (fit G : Bool) → k ≡ length bs →
+    us ≡ drop k all →
+    (fit && binders_fit (mults_onto [] (tele (take (length bs - k) bs))) us) ≡ G →
+    (fit ≡ G) × (us ≡ drop (length (tele bs)) all)
 fit-all bs k us all fit G e d so =
     let z : length bs - k ≡ 0 = omega arith in (
       sym (and-true fit) ∙ ap (λ n. fit && binders_fit (mults_onto [] (tele (take n bs))) us) (sym z) ∙ so,

@@ -1,130 +1,161 @@
--- A term in which no Trap stands has one use in the run part.
-use Rattle.std.proofs.Common.{◌≡◌, ℕ, suc, Bool, cond, List, [], ◌∷◌, length, refl, sym, ◌∙◌, ap, subst}
-use mathlib.Core.Path.{ap₂}
+-- A term that is accepted has one use in the run part, and so has a typed term in which no Trap stands.
+use Rattle.std.proofs.Common.{◌≡◌, ℕ, suc, List, [], ◌∷◌, length, refl, sym, ◌∙◌, ap}
 use Rattle.qtt_usage.specs.declared.mult.Mult.{Mult}
-use Rattle.qtt_usage.specs.Mult.{𝟘, 𝟙, ω, ◌⊕◌, ◌⊙◌, join}
-use Rattle.qtt_usage.specs.Uses.{Key, Use, out, outs}
-use Rattle.qtt_term.specs.Term.{Form, zeros, Term, Terms, var, node, ε, ◌▸◌}
-use Rattle.qtt_term.specs.Substitution.{closed}
-use Rattle.qtt_term.specs.Signature.{Tele, ConSig, FamSig, Env, fam_at}
-use Rattle.qtt_term.specs.Judgement.{Ctx, KeyIn, ext, Part, under, Judged, sum_of, has_branch, join_of, Args, ParamsThenArgs, Branches, Cases, Rule, Typed, TypedAll}
+use Rattle.qtt_usage.specs.Mult.{𝟘, 𝟙, ω, ◌⊙◌}
+use Rattle.qtt_usage.specs.Uses.{Key, Use, unit, out, outs}
+use Rattle.qtt_term.specs.Term.{Form, binders, Term, Terms, var, node, ε, ◌▸◌}
+use Rattle.qtt_term.specs.Signature.{Tele, Env}
+use Rattle.qtt_term.specs.Contraction.{Conv}
+use Rattle.qtt_term.specs.Judgement.{Ctx, KeyIn, ext, Part, under, UseIs, Judged, total, Rule, Typed, TypedAll}
+use Rattle.qtt_term.specs.Accepted.{live, own_of, IsSmall, Accepts, AcceptsAll}
 use Rattle.qtt_preserve.proofs.Inverted.{inverted}
-use Rattle.qtt_preserve.proofs.Iota.{is_con-one}
-use Rattle.qtt_core_check.specs.Trapless.{NoTrap, NoTraps}
+use Rattle.qtt_core_check.specs.Trapless.{IsTrap, NoTrap, NoTraps}
+use Rattle.qtt_core_check.proofs.Asked.{SameAsked, rule-asked, SharesAgree, totals-agree, live-agree}
 
 -- two uses that are equal in a context
 abbrev pub UsesAgree : Ctx → Use → Use → Type 0
 UsesAgree Γ u w = (x : Key) → KeyIn Γ x → u x ≡ w x
 
-abbrev pub OneUse : Env → Term → Type 0
-OneUse E t = NoTrap t → (Γ : Ctx) (A B : Term) (u w : Use) → Typed E Part.run Γ t A u → Typed E Part.run Γ t B w → UsesAgree Γ u w
-
-abbrev pub AllOneUse : Env → Terms → Type 0
-AllOneUse E ε = Unit {0}
-AllOneUse E (t ▸ ts) = OneUse E t × AllOneUse E ts
-
-agree-out : (Γ : Ctx) (b : Mult × Term) (u w : Use) → UsesAgree (b ∷ Γ) u w → UsesAgree Γ (out u) (out w)
+pub agree-out : (Γ : Ctx) (b : Mult × Term) (u w : Use) → UsesAgree (b ∷ Γ) u w → UsesAgree Γ (out u) (out w)
 agree-out Γ b u w h (Key.v i) s = h (Key.v (suc i)) s
 agree-out Γ b u w h (Key.h i) s = h (Key.h i) s
 
-pub agree-outs : (Γ : Ctx) (Θ : Tele) (u w : Use) → UsesAgree (ext Γ Θ) u w → UsesAgree Γ (outs (length Θ) u) (outs (length Θ) w)
+agree-outs : (Γ : Ctx) (Θ : Tele) (u w : Use) → UsesAgree (ext Γ Θ) u w →
+    UsesAgree Γ (outs (length Θ) u) (outs (length Θ) w)
 agree-outs Γ [] u w h = h
 agree-outs Γ (b ∷ Θ) u w h = agree-out Γ b (outs (length Θ) u) (outs (length Θ) w) (agree-outs (b ∷ Γ) Θ u w h)
 
 -- the share of a component, whose use counts in the run part alone
-shares-agree : {E : Env} (Γ : Ctx) (t A B : Term) (q : Mult) (u w : Use) → OneUse E t → NoTrap t → Typed E (under Part.run q) Γ t A u → Typed E (under Part.run q) Γ t B w →
-    (x : Key) → KeyIn Γ x → q ⊙ u x ≡ q ⊙ w x
-shares-agree Γ t A B 𝟘 u w o n h k x s = refl
-shares-agree Γ t A B 𝟙 u w o n h k x s = o n Γ A B u w h k x s
-shares-agree Γ t A B ω u w o n h k x s = ap (λ m. ω ⊙ m) (o n Γ A B u w h k x s)
+at-share : (J : Part → Use → Use → Type 0) (Γ : Ctx) (Θ : Tele) (q : Mult) (u w : Use) →
+    (J Part.run u w → UsesAgree (ext Γ Θ) u w) → J (under Part.run q) u w →
+    (x : Key) → KeyIn Γ x → q ⊙ outs (length Θ) u x ≡ q ⊙ outs (length Θ) w x
+at-share J Γ Θ 𝟘 u w o h x s = refl
+at-share J Γ Θ 𝟙 u w o h x s = agree-outs Γ Θ u w (o h) x s
+at-share J Γ Θ ω u w o h x s = ap (λ m. ω ⊙ m) (agree-outs Γ Θ u w (o h) x s)
 
-args-agree : {E : Env} (Γ : Ctx) {Θ : Tele} {σ : ℕ → Term} {ts : Terms} {js ks : List Judged} → Args Θ σ ts js → Args Θ σ ts ks →
-    TypedAll E Part.run Γ [] ts js → TypedAll E Part.run Γ [] ts ks → AllOneUse E ts → NoTraps ts → (x : Key) → KeyIn Γ x → sum_of js x ≡ sum_of ks x
-args-agree Γ Args.none Args.none hs ks o n x s = refl
-args-agree Γ (Args.more {q = q} {a = t} {u = u} a) (Args.more {u = w} b) (TypedAll.more i h f hs) (TypedAll.more j k g ks) o n x s =
-    ap₂ (λ m n. m ⊕ n) (shares-agree Γ t _ _ q u w o.0 n.0 h k x s) (args-agree Γ a b hs ks o.1 n.1 x s)
+-- ---- accepted terms
+abbrev pub OneAccepted : Env → Term → Type 0
+OneAccepted E t = (Γ : Ctx) (A B : Term) (u w : Use) → Accepts E Part.run Γ t A u → Accepts E Part.run Γ t B w →
+    UsesAgree Γ u w
 
-params-agree : {E : Env} (Γ : Ctx) {Ξ Θ : Tele} {σ : ℕ → Term} {ts : Terms} {js ks : List Judged} {S R T : Term} → ParamsThenArgs Ξ Θ σ ts js S R → ParamsThenArgs Ξ Θ σ ts ks S T →
-    TypedAll E Part.run Γ [] ts js → TypedAll E Part.run Γ [] ts ks → AllOneUse E ts → NoTraps ts → (x : Key) → KeyIn Γ x → sum_of js x ≡ sum_of ks x
-params-agree Γ (ParamsThenArgs.param a) (ParamsThenArgs.param b) (TypedAll.more i h f hs) (TypedAll.more j k g ks) o n x s = params-agree Γ a b hs ks o.1 n.1 x s
-params-agree Γ (ParamsThenArgs.done a) (ParamsThenArgs.done b) hs ks o n x s = args-agree Γ a b hs ks o n x s
+abbrev AllOneAccepted : Env → Terms → Type 0
+AllOneAccepted E ε = Unit {0}
+AllOneAccepted E (t ▸ ts) = OneAccepted E t × AllOneAccepted E ts
 
--- branches and scrutinee use the same, in sum and in join
-record BranchesAgree (js ks : List Judged) (x : Key) : Type 0 where
-  sums : sum_of js x ≡ sum_of ks x
-  has : has_branch js ≡ has_branch ks
-  joins : join_of js x ≡ join_of ks x
+-- what a derivation of a form ends with, but for conversion
+pub record FormAccepted (E : Env) (p : Part) (Γ : Ctx) (F : Form) (ts : Terms) (A : Term) (u : Use) : Type 0 where
+  pub judged_so : List Judged
+  pub type : Term
+  pub own : Use
+  pub rule : Rule E p F ts judged_so type own
+  pub small : IsSmall F
+  pub components : AcceptsAll E p Γ (binders F) ts judged_so
+  pub conv : Conv E type A
+  pub uses : UseIs p Γ (total (own_of F) (live ts judged_so)) u
 
-joined-agree : (a b : Bool) (c d e f : Mult) → a ≡ b → c ≡ d → e ≡ f → cond a (join c e) c ≡ cond b (join d f) d
-joined-agree a b c d e f p q r = subst (λ b. cond a (join c e) c ≡ cond b (join d f) d) p (ap₂ (λ c e. cond a (join c e) c) q r)
-
-branches-agree : {E : Env} (Γ : Ctx) {S : FamSig} {q : Mult} {σ : ℕ → Term} {P : Term} {cs : List ConSig} {ns : List ℕ} {ts : Terms} {js ks : List Judged} {R T : Term} →
-    Branches S q σ P cs ns ts js R → Branches S q σ P cs ns ts ks T → TypedAll E Part.run Γ ns ts js → TypedAll E Part.run Γ ns ts ks → AllOneUse E ts → NoTraps ts →
-    (x : Key) → KeyIn Γ x → BranchesAgree js ks x
-branches-agree Γ (Branches.each {js = js} {w = u} e a) (Branches.each {js = ks} {w = w} d b) (TypedAll.more {j = j} i h f hs) (TypedAll.more l k g ls) o n x s =
-    let r = branches-agree Γ a b hs ls o.1 n.1 x s in
+pub of-form : {E : Env} {p : Part} {Γ : Ctx} {F : Form} {ts : Terms} {A : Term} {u : Use} →
+    Accepts E p Γ (node F ts) A u → FormAccepted E p Γ F ts A u
+of-form (Accepts.by_rule {js = js} {R = R} {own = own} r s hs e) =
+    record { judged_so = js; type = R; own = own; rule = r; small = s; components = hs; conv = Conv.same; uses = e }
+of-form (Accepts.conversion h c) =
+    let a = of-form h in
     record {
-      sums = r.sums;
-      has = refl;
-      joins = joined-agree (has_branch js) (has_branch ks) _ _ (join_of js x) (join_of ks x) r.has
-          (agree-outs Γ j.binds u w (o.0 n.0 (ext Γ j.binds) _ _ u w h k) x s) r.joins;
+      judged_so = a.judged_so;
+      type = a.type;
+      own = a.own;
+      rule = a.rule;
+      small = a.small;
+      components =
+          a.components;
+      conv = Conv.thence a.conv c;
+      uses = a.uses;
     }
-branches-agree Γ {q = q} (Branches.scrutinee {s = t} is {w = u} e) (Branches.scrutinee ks {w = w} d) (TypedAll.more i h f hs) (TypedAll.more l k g ls) o n x s = record {
-  sums = ap (λ m. m ⊕ 𝟘) (shares-agree Γ t _ _ q u w o.0 n.0 h k x s);
-  has = refl;
-  joins = refl;
-}
-
-cases-agree : {E : Env} (Γ : Ctx) {S : FamSig} {q : Mult} {Θ : Tele} {σ : ℕ → Term} {k m l : ℕ} {ns : List ℕ} {ts : Terms} {js ks : List Judged} {R T : Term} →
-    Cases S q Θ σ k m ns ts js R → Cases S q Θ σ k l ns ts ks T → TypedAll E Part.run Γ (zeros k (m ∷ ns)) ts js → TypedAll E Part.run Γ (zeros k (l ∷ ns)) ts ks →
-    AllOneUse E ts → NoTraps ts → (x : Key) → KeyIn Γ x → sum_of js x ⊕ join_of js x ≡ sum_of ks x ⊕ join_of ks x
-cases-agree Γ (Cases.param a) (Cases.param b) (TypedAll.more i h f hs) (TypedAll.more j k g ks) o n x s = cases-agree Γ a b hs ks o.1 n.1 x s
-cases-agree Γ (Cases.motive a) (Cases.motive b) (TypedAll.more i h f hs) (TypedAll.more j k g ks) o n x s =
-    let r = branches-agree Γ a b hs ks o.1 n.1 x s in ap₂ (λ m n. m ⊕ n) r.sums r.joins
 
 module _ (E : Env) where
-  one-rule : {Γ : Ctx} {F : Form} {ts : Terms} {js : List Judged} {R : Term} {own : Use} → Rule E Part.run F ts js R own → (B C : Term) (u w : Use) →
-      Typed E Part.run Γ (node F ts) B u → Typed E Part.run Γ (node F ts) C w → AllOneUse E ts → NoTrap (node F ts) → UsesAgree Γ u w
-  one-rule {Γ} (Rule.sort {l = l}) B C u w h k o n x s =
-      let inv = inverted E Part.run Γ in (inv.sort l B u h).1 x s ∙ sym ((inv.sort l C w k).1 x s)
-  one-rule {Γ} (Rule.pi {q = q} {A = D} {B = G}) B C u w h k o n x s =
-      let inv = inverted E Part.run Γ in (inv.pi q D G B u h).7 x s ∙ sym ((inv.pi q D G C w k).7 x s)
-  one-rule {Γ} (Rule.lam {q = q} {A = D} {b = b}) B C u w h k o n x s =
-      let (i, A, y, z, hA, hb, f, c, e) = (inverted E Part.run Γ).lam q D b B u h in
-      let (i', A', y', z', kA, kb, f', c', e') = (inverted E Part.run Γ).lam q D b C w k in
-      e x s ∙ agree-out Γ (q, D) z z' (o.1.0 n.1.1.0 ((q, D) ∷ Γ) A A' z z' hb kb) x s ∙ sym (e' x s)
-  one-rule {Γ} (Rule.app {q = q} {f = f} {a = a}) B C u w h k o n x s =
-      let (D, G, y, z, hf, ha, c, e) = (inverted E Part.run Γ).app q f a B u h in
-      let (D', G', y', z', kf, ka, c', e') = (inverted E Part.run Γ).app q f a C w k in
-      e x s ∙ ap₂ (λ m n. m ⊕ n) (o.0 n.1.0 Γ _ _ y y' hf kf x s) (shares-agree Γ a D D' q z z' o.1.0 n.1.1.0 ha ka x s) ∙ sym (e' x s)
-  one-rule {Γ} (Rule.fam {f = f} {ts = ts} t a) B C u w h k o n x s =
-      let inv = inverted E Part.run Γ in (inv.family f ts B u h).6 x s ∙ sym ((inv.family f ts C w k).6 x s)
-  one-rule {Γ} (Rule.con {f = f} {n = m} {ts = ts} i a) B C u w h k o n x s =
-      let (d, js, R, j, e, b, hs, c, g) = (inverted E Part.run Γ).constructor f m _ ts B u h in
-      let (d', js', R', j', e', b', ks, c', g') = (inverted E Part.run Γ).constructor f m _ ts C w k in
-      g x s ∙ params-agree Γ b (subst (λ d. ParamsThenArgs d.fields (fam_at E f).params closed ts js' d.result R') (is_con-one j' j) b') hs ks o n.1 x s ∙ sym (g' x s)
-  one-rule {Γ} (Rule.case {q = q} {f = f} {k = l} {m = m} {ns = ns} {ts = ts} t y a) B C u w h k o n x s =
-      let (js, R, t, v, b, hs, c, g) = (inverted E Part.run Γ).case q f l m ns ts B u h in
-      let (js', R', t', v', b', ks, c', g') = (inverted E Part.run Γ).case q f l m ns ts C w k in
-      g x s ∙ cases-agree Γ b b' hs ks o n.1 x s ∙ sym (g' x s)
-  one-rule {Γ} (Rule.delete {q = q} {A = A} {s = t} {P = P} {b = b} {e = e} y) B C u w h k o n x s =
-      let (l, u₁, u₂, u₃, y, z, m, h₁, h₂, h₃, h₄, h₅, c, g) = (inverted E Part.run Γ).delete q A t P b e B u h in
-      let (l', w₁, w₂, w₃, y', z', m', k₁, k₂, k₃, k₄, k₅, c', g') = (inverted E Part.run Γ).delete q A t P b e C w k in
-      g x s ∙ ap₂ (λ m n. m ⊕ n) (o.1.1.1.0 n.1.1.1.1.0 Γ _ _ y y' h₄ k₄ x s) (shares-agree Γ e _ _ q z z' o.1.1.1.1.0 n.1.1.1.1.1.0 h₅ k₅ x s) ∙ sym (g' x s)
-  one-rule {Γ} (Rule.named {n = m} {ts = ts} t y a) B C u w h k o n x s =
-      let (js, t, v, b, hs, c, g) = (inverted E Part.run Γ).named m ts B u h in
-      let (js', t', v', b', ks, c', g') = (inverted E Part.run Γ).named m ts C w k in
-      g x s ∙ args-agree Γ b b' hs ks o n.1 x s ∙ sym (g' x s)
-  one-rule {Γ} (Rule.trap {A = A}) B C u w h k o n x s = absurd (n.0 tt)
-  one-rule {Γ} (Rule.tape {n = m}) B C u w h k o n x s =
-      let inv = inverted E Part.run Γ in (inv.tape m B u h).1 x s ∙ sym ((inv.tape m C w k).1 x s)
+  accepted-shares : {Γ : Ctx} {ns : List ℕ} {ts : Terms} {js ks : List Judged} → SameAsked js ks →
+      AcceptsAll E Part.run Γ ns ts js → AcceptsAll E Part.run Γ ns ts ks →
+      AllOneAccepted E ts → (x : Key) → KeyIn Γ x → SharesAgree x js ks
+  accepted-shares SameAsked.none AcceptsAll.none AcceptsAll.none o x s = SharesAgree.none
+  accepted-shares {Γ} (SameAsked.component {Θ = Θ} {A = A} {B = B} {q = q} {u = u} {w = w} a)
+      (AcceptsAll.more {t = t} i h f hs) (AcceptsAll.more j k g ks) o x s =
+      SharesAgree.more
+      (at-share (λ p u w. Accepts E p (ext Γ Θ) t A u × Accepts E p (ext Γ Θ) t B w) Γ Θ q u w
+      (λ c. o.0 (ext Γ Θ) A B u w c.0 c.1) (h, k) x s)
+      (accepted-shares a hs ks o.1 x s)
+  accepted-shares {Γ} (SameAsked.branches {Θ = Θ} {A = A} {B = B} {u = u} {w = w} a)
+      (AcceptsAll.more {t = t} i h f hs) (AcceptsAll.more j k g ks) o x s =
+      SharesAgree.more (agree-outs Γ Θ u w (o.0 (ext Γ Θ) A B u w h k) x s) (accepted-shares a hs ks o.1 x s)
+
+  variable-use : {Γ : Ctx} {i : ℕ} {A : Term} {u : Use} → Accepts E Part.run Γ (var i) A u →
+      UsesAgree Γ u (unit (Key.v i))
+  variable-use (Accepts.variable h m e) = e
+  variable-use (Accepts.conversion h c) = variable-use h
+
+  mutual
+    pub one-accepted : (t : Term) → OneAccepted E t
+    one-accepted (var i) Γ A B u w h k x s = variable-use h x s ∙ sym (variable-use k x s)
+    one-accepted (node F ts) Γ A B u w h k x s =
+        let a = of-form h in
+        let b = of-form k in
+        a.uses x s
+        ∙ totals-agree (own_of F) (own_of F) refl
+        (live-agree ts (accepted-shares (rule-asked a.rule b.rule) a.components b.components
+        (all-one-accepted ts) x s))
+        ∙ sym (b.uses x s)
+
+    all-one-accepted : (ts : Terms) → AllOneAccepted E ts
+    all-one-accepted ε = tt
+    all-one-accepted (t ▸ ts) = (one-accepted t, all-one-accepted ts)
+
+-- ---- typed terms in which no Trap stands
+abbrev pub OneUse : Env → Term → Type 0
+OneUse E t = NoTrap t → (Γ : Ctx) (A B : Term) (u w : Use) → Typed E Part.run Γ t A u → Typed E Part.run Γ t B w →
+    UsesAgree Γ u w
+
+abbrev AllOneUse : Env → Terms → Type 0
+AllOneUse E ε = Unit {0}
+AllOneUse E (t ▸ ts) = OneUse E t × AllOneUse E ts
+
+-- of its own a form uses what its rule says, where it is no Trap
+pub own-is : {E : Env} {p : Part} {F : Form} {ts : Terms} {js : List Judged} {R : Term} {own : Use} →
+    Rule E p F ts js R own → (IsTrap F → ⊥) →
+    (x : Key) → own x ≡ own_of F x
+own-is Rule.sort n x = refl
+own-is Rule.pi n x = refl
+own-is Rule.lam n x = refl
+own-is Rule.app n x = refl
+own-is (Rule.fam h a) n x = refl
+own-is (Rule.con i a) n x = refl
+own-is (Rule.case h u a) n x = refl
+own-is (Rule.delete u) n x = refl
+own-is (Rule.named h u a) n x = refl
+own-is Rule.trap n x = absurd (n tt)
+own-is Rule.tape n x = refl
+
+module _ (E : Env) where
+  typed-shares : {Γ : Ctx} {ns : List ℕ} {ts : Terms} {js ks : List Judged} → SameAsked js ks →
+      TypedAll E Part.run Γ ns ts js → TypedAll E Part.run Γ ns ts ks →
+      AllOneUse E ts → NoTraps ts → (x : Key) → KeyIn Γ x → SharesAgree x js ks
+  typed-shares SameAsked.none TypedAll.none TypedAll.none o n x s = SharesAgree.none
+  typed-shares {Γ} (SameAsked.component {Θ = Θ} {A = A} {B = B} {q = q} {u = u} {w = w} a)
+      (TypedAll.more {t = t} i h f hs) (TypedAll.more j k g ks) o n x s =
+      SharesAgree.more
+      (at-share (λ p u w. Typed E p (ext Γ Θ) t A u × Typed E p (ext Γ Θ) t B w) Γ Θ q u w
+      (λ c. o.0 n.0 (ext Γ Θ) A B u w c.0 c.1) (h, k) x s)
+      (typed-shares a hs ks o.1 n.1 x s)
+  typed-shares {Γ} (SameAsked.branches {Θ = Θ} {A = A} {B = B} {u = u} {w = w} a) (TypedAll.more {t = t} i h f hs)
+      (TypedAll.more j k g ks) o n x s =
+      SharesAgree.more (agree-outs Γ Θ u w (o.0 n.0 (ext Γ Θ) A B u w h k) x s) (typed-shares a hs ks o.1 n.1 x s)
 
   mutual
     pub one-use : (t : Term) → OneUse E t
     one-use (var i) n Γ A B u w h k x s =
         let inv = inverted E Part.run Γ in (inv.variable i A u h).3 x s ∙ sym ((inv.variable i B w k).3 x s)
     one-use (node F ts) n Γ A B u w h k x s =
-        let (js, R, own, rule, hs, c, e) = (inverted E Part.run Γ).form F ts A u h in one-rule rule A B u w h k (all-one-use ts) n x s
+        let (js, R, own, r, hs, c, e) = (inverted E Part.run Γ).form F ts A u h in
+        let (ks, T, any, z, ls, d, g) = (inverted E Part.run Γ).form F ts B w k in
+        e x s ∙ totals-agree own any (own-is r n.0 x ∙ sym (own-is z n.0 x))
+        (typed-shares (rule-asked r z) hs ls (all-one-use ts) n.1 x s) ∙ sym (g x s)
 
     all-one-use : (ts : Terms) → AllOneUse E ts
     all-one-use ε = tt

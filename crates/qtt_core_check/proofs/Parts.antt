@@ -16,7 +16,8 @@ pub record Parts (E : Env) {F P A B : Type 0} (m : Ask F P A) (k : A → Ask F P
   pub first : Ends E m (Ending.ok mid)
   pub after : Ends E (k mid) (Ending.ok b)
 
-pub parts : {E : Env} {F P A B : Type 0} (m : Ask F P A) (k : A → Ask F P B) (b : B) → Ends E (m >>= k) (Ending.ok b) → Parts E m k b
+pub parts : {E : Env} {F P A B : Type 0} (m : Ask F P A) (k : A → Ask F P B) (b : B) →
+    Ends E (m >>= k) (Ending.ok b) → Parts E m k b
 unfolding ◌>>=◌
 parts (Ask.done a) k b x = record { mid = a; first = Ends.is_done; after = x }
 parts (Ask.fail f) k b x = elim x [ ]
@@ -39,7 +40,8 @@ unfolding need
 holding true p u x = refl
 holding false p u x = elim x [ ]
 
-pub agreeing : {E : Env} (Γ : Ctx) (t s : Term) (p : Premise) (u : Unit {0}) → Ends E (agree Γ t s p) (Ending.ok u) → Conv E t s
+pub agreeing : {E : Env} (Γ : Ctx) (t s : Term) (p : Premise) (u : Unit {0}) → Ends E (agree Γ t s p) (Ending.ok u) →
+    Conv E t s
 unfolding agree
 agreeing Γ t s p u (Ends.are_equal e x) = e
 agreeing Γ t s p u (Ends.are_different e x) = elim x [ ]
@@ -56,20 +58,24 @@ sort-is : {E : Env} (h : Term) (p : Premise) (l : ℕ) → Ends E (as_sort h p) 
 sort-is (node (Form.sort k) ε) p l Ends.is_done = refl
 sort-is _ p l x = elim x [ ]
 
-pub sort-found : {E : Env} (Γ : Ctx) (A : Term) (p : Premise) (l : ℕ) → Ends E (sort_of Γ A p) (Ending.ok l) → HeadIs E A (Sort l)
+pub sort-found : {E : Env} (Γ : Ctx) (A : Term) (p : Premise) (l : ℕ) → Ends E (sort_of Γ A p) (Ending.ok l) →
+    HeadIs E A (Sort l)
 unfolding sort_of
 sort-found {E} Γ A p l (Ends.has_head {h = h} e x) = subst (HeadIs E A) (sort-is h p l x) e
 
-function-is : {E : Env} (h : Term) (p : Premise) (F : Function) → Ends E (as_function h p) (Ending.ok F) → h ≡ Pi F.mult F.domain F.codomain
+function-is : {E : Env} (h : Term) (p : Premise) (F : Function) → Ends E (as_function h p) (Ending.ok F) →
+    h ≡ Pi F.mult F.domain F.codomain
 function-is (node (Form.pi q) (A ▸ B ▸ ε)) p F Ends.is_done = refl
 function-is _ p F x = elim x [ ]
 
-pub function-found : {E : Env} (Γ : Ctx) (A : Term) (p : Premise) (F : Function) → Ends E (function_of Γ A p) (Ending.ok F) →
+pub function-found : {E : Env} (Γ : Ctx) (A : Term) (p : Premise) (F : Function) →
+    Ends E (function_of Γ A p) (Ending.ok F) →
     HeadIs E A (Pi F.mult F.domain F.codomain)
 unfolding function_of
 function-found {E} Γ A p F (Ends.has_head {h = h} e x) = subst (HeadIs E A) (function-is h p F x) e
 
-chosen : {E : Env} (b : Bool) (p : Premise) (ts us : Terms) → Ends E {F = Premise} {P = Unit {0}} (cond b (Ask.done ts) (Ask.fail p)) (Ending.ok us) → (b ≡ true) × (ts ≡ us)
+chosen : {E : Env} (b : Bool) (p : Premise) (ts us : Terms) →
+    Ends E {F = Premise} {P = Unit {0}} (cond b (Ask.done ts) (Ask.fail p)) (Ending.ok us) → (b ≡ true) × (ts ≡ us)
 chosen true p ts us Ends.is_done = (refl, refl)
 chosen false p ts us x = elim x [ ]
 
@@ -77,7 +83,8 @@ chosen false p ts us x = elim x [ ]
 abbrev pub FamilyIs : GlobalId → ℕ → Terms → Term → Type 0
 FamilyIs f n us h = (h ≡ Fam f us) × (size us ≡ n)
 
-family-is : {E : Env} (f : GlobalId) (n : ℕ) (h : Term) (p : Premise) (us : Terms) → Ends E (as_family f n h p) (Ending.ok us) → FamilyIs f n us h
+family-is : {E : Env} (f : GlobalId) (n : ℕ) (h : Term) (p : Premise) (us : Terms) →
+    Ends E (as_family f n h p) (Ending.ok us) → FamilyIs f n us h
 family-is f n (node (Form.fam g) ts) p us x =
     let (e, d) = chosen (same_id f g && eqb (size ts) n) p ts us x in
     let (i, s) = and_parts (same_id f g) (eqb (size ts) n) e in
@@ -88,7 +95,8 @@ pub record FamilyFound (E : Env) (f : GlobalId) (n : ℕ) (A : Term) (us : Terms
   pub head : HeadIs E A (Fam f us)
   pub counted : size us ≡ n
 
-pub family-found : {E : Env} (Γ : Ctx) (f : GlobalId) (n : ℕ) (A : Term) (p : Premise) (us : Terms) → Ends E (family_of Γ f n A p) (Ending.ok us) →
+pub family-found : {E : Env} (Γ : Ctx) (f : GlobalId) (n : ℕ) (A : Term) (p : Premise) (us : Terms) →
+    Ends E (family_of Γ f n A p) (Ending.ok us) →
     FamilyFound E f n A us
 unfolding family_of
 family-found {E} Γ f n A p us (Ends.has_head {h = h} e x) =

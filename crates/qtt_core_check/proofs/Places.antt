@@ -17,13 +17,15 @@ use Rattle.qtt_core_check.proofs.Arguments.{length-wanted}
 use Rattle.qtt_core_check.proofs.Families.{sig-there}
 use Rattle.qtt_core_check.proofs.Matches.{length-indices}
 
-pub constructor-at : (cs : List code_constructor.Constructor) (k : ℕ) (x : code_constructor.Constructor) → k < length cs → x ≡ get_or cs k x →
+pub constructor-at : (cs : List code_constructor.Constructor) (k : ℕ) (x : code_constructor.Constructor) →
+    k < length cs → x ≡ get_or cs k x →
     slice_get (map constructor cs) k ≡ Some (constructor x)
 constructor-at [] k x h e = absurd (omega arith)
 constructor-at (c ∷ cs) zero x h e = ap (λ c. Some (constructor c)) (sym e)
 constructor-at (c ∷ cs) (suc k) x h e = constructor-at cs k x (omega arith) e
 
-pub constructor-past : (cs : List code_constructor.Constructor) (k : ℕ) → length cs ≤ k → slice_get (map constructor cs) k ≡ None
+pub constructor-past : (cs : List code_constructor.Constructor) (k : ℕ) → length cs ≤ k →
+    slice_get (map constructor cs) k ≡ None
 constructor-past [] k h = refl
 constructor-past (c ∷ cs) zero h = absurd (omega arith)
 constructor-past (c ∷ cs) (suc k) h = constructor-past cs k (omega arith)
@@ -35,15 +37,20 @@ some-is : {A : Type 0} (a b : A) → Some a ≡ Some b → a ≡ b
 some-is a b e = cc e
 
 -- the signature at a place is that of the constructor there
-pub sig-at : (f : GlobalId) (F : code_family.Family) (k n i : ℕ) (x : code_constructor.Constructor) (d : ConSig) → i < length F.constructors.items → x ≡ get_or F.constructors.items i x →
-    k ≡ length F.params.items → n ≡ i → slice_get (fam_sig f (family F)).constructors i ≡ Some d → con_sig f k n (constructor x) ≡ d
+pub sig-at : (f : GlobalId) (F : code_family.Family) (k n i : ℕ) (x : code_constructor.Constructor) (d : ConSig) →
+    i < length F.constructors.items → x ≡ get_or F.constructors.items i x →
+    k ≡ length F.params.items → n ≡ i → slice_get (fam_sig f (family F)).constructors i ≡ Some d →
+    con_sig f k n (constructor x) ≡ d
 sig-at f F k n i x d h e a b s =
     ap₂ (λ k n. con_sig f k n (constructor x)) (a ∙ sym (length-params F)) b
-    ∙ some-is _ _ (sym (sig-there f (length (family F).params) i (map constructor F.constructors.items) (constructor x) (constructor-at F.constructors.items i x h e)) ∙ s)
+    ∙ some-is _ _ (sym (sig-there f (length (family F).params) i (map constructor F.constructors.items)
+    (constructor x) (constructor-at F.constructors.items i x h e)) ∙ s)
 
 -- as many as parameters and indices
-pub wants-number : (f : GlobalId) (F : code_family.Family) → length (family_wants (fam_sig f (family F))) ≡ length F.params.items + length F.indices.items
+pub wants-number : (f : GlobalId) (F : code_family.Family) →
+    length (family_wants (fam_sig f (family F))) ≡ length F.params.items + length F.indices.items
 wants-number f F =
     length-wanted (at rule.Fam 1) (erase_binds ((family F).params ++ index_binders 0 (family F).indices))
-    ∙ length-scale 𝟘 ((family F).params ++ index_binders 0 (family F).indices) ∙ length-append (family F).params (index_binders 0 (family F).indices)
+    ∙ length-scale 𝟘 ((family F).params ++ index_binders 0 (family F).indices) ∙ length-append (family F).params
+    (index_binders 0 (family F).indices)
     ∙ ap₂ (λ a b. a + b) (length-params F) (length-indices 0 (family F).indices ∙ length-map F.indices.items term)

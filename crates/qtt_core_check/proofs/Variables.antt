@@ -46,8 +46,10 @@ module _ {n : ℕ} (E : Env) (p : Part) (Γ : Ctx) (i : ℕ) where
   pub var-missing : slice_get Γ i ≡ None → Fails E n (infer E p Γ (var i)) (at rule.Var 1)
   var-missing e = fails_here _ (unmet _ _ (rw (not-below i (length Γ) (past-end Γ i e)) refl))
 
-  pub var-unusable : (b : Mult × Term) → slice_get Γ i ≡ Some b → usable p b.0 ≡ false → Fails E n (infer E p Γ (var i)) (at rule.Var 1)
-  var-unusable b e u = fails_here _ (unmet _ _ (rw (lt-ltb i (length Γ) (before-end Γ i b e), mult-found Γ i b e, u) refl))
+  pub var-unusable : (b : Mult × Term) → slice_get Γ i ≡ Some b → usable p b.0 ≡ false →
+      Fails E n (infer E p Γ (var i)) (at rule.Var 1)
+  var-unusable b e u = fails_here _
+      (unmet _ _ (rw (lt-ltb i (length Γ) (before-end Γ i b e), mult-found Γ i b e, u) refl))
 
   pub var-found : (b : Mult × Term) → slice_get Γ i ≡ Some b → usable p b.0 ≡ true →
       Reaches E n (infer E p Γ (var i)) (inferred (ren (shift (i + 1)) b.1) (use_at p (length Γ) i))

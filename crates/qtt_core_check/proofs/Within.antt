@@ -14,14 +14,17 @@ onward (Ending.ok a) k = k a
 onward (Ending.fails f) k = Ending.fails f
 onward (Ending.spent p q) k = Ending.spent p q
 
-on_head-onward : {F P A B : Type 0} (H : question.Head) (f : Term → Ending F P A) (g : Term → Ending F P B) (p : P) (q : Question) (k : A → Ending F P B) →
+on_head-onward : {F P A B : Type 0} (H : question.Head) (f : Term → Ending F P A) (g : Term → Ending F P B)
+    (p : P) (q : Question) (k : A → Ending F P B) →
     ((h : Term) → g h ≡ onward (f h) k) → on_head H g (Ending.spent p q) ≡ onward (on_head H f (Ending.spent p q)) k
 unfolding on_head
 on_head-onward (question.Head.done h made) f g p q k same = same h
 on_head-onward question.Head.spent f g p q k same = refl
 
-on_answer-onward : {F P A B : Type 0} (a : question.Answer) (m w : Ending F P A) (m' w' : Ending F P B) (p : P) (q : Question) (k : A → Ending F P B) →
-    m' ≡ onward m k → w' ≡ onward w k → on_answer a m' w' (Ending.spent p q) ≡ onward (on_answer a m w (Ending.spent p q)) k
+on_answer-onward : {F P A B : Type 0} (a : question.Answer) (m w : Ending F P A) (m' w' : Ending F P B) (p : P)
+    (q : Question) (k : A → Ending F P B) →
+    m' ≡ onward m k → w' ≡ onward w k →
+    on_answer a m' w' (Ending.spent p q) ≡ onward (on_answer a m w (Ending.spent p q)) k
 unfolding on_answer
 on_answer-onward question.Answer.equal m w m' w' p q k d e = d
 on_answer-onward (question.Answer.different path) m w m' w' p q k d e = e
@@ -33,12 +36,15 @@ unfolding within ◌>>=◌
 within-then E n (Ask.done a) k = refl
 within-then E n (Ask.fail f) k = refl
 within-then E n (Ask.head p d t g) k =
-    on_head-onward (question.head E n t) (λ h. within E n (g h)) (λ h. within E n (g h >>= k)) p (Question.head_of d t) (λ a. within E n (k a)) (λ h. within-then E n (g h) k)
+    on_head-onward (question.head E n t) (λ h. within E n (g h)) (λ h. within E n (g h >>= k)) p
+    (Question.head_of d t) (λ a. within E n (k a)) (λ h. within-then E n (g h) k)
 within-then E n (Ask.compare p d t s m w) k =
-    on_answer-onward (question.compare E n t s) (within E n m) (within E n w) (within E n (m >>= k)) (within E n (w >>= k)) p (Question.compared d t s) (λ a. within E n (k a))
+    on_answer-onward (question.compare E n t s) (within E n m) (within E n w) (within E n (m >>= k))
+    (within E n (w >>= k)) p (Question.compared d t s) (λ a. within E n (k a))
     (within-then E n m k) (within-then E n w k)
 
-onto : (E : Env) (n : ℕ) {A B : Type 0} (m : Asks A) (k : A → Asks B) (e : Ending Premise (Unit {0}) A) → within E n m ≡ e →
+onto : (E : Env) (n : ℕ) {A B : Type 0} (m : Asks A) (k : A → Asks B) (e : Ending Premise (Unit {0}) A) →
+    within E n m ≡ e →
     within E n (m >>= k) ≡ onward e (λ a. within E n (k a))
 onto E n m k e h = within-then E n m k ∙ ap (λ x. onward x (λ a. within E n (k a))) h
 
@@ -46,17 +52,20 @@ pub on_done : {E : Env} {n : ℕ} {A : Type 0} {a : A} → Reaches E n (Ask.done
 unfolding within
 on_done = record { is = refl }
 
-pub on : {E : Env} {n : ℕ} {A B : Type 0} {m : Asks A} (k : A → Asks B) {a : A} {b : B} → Reaches E n m a → Reaches E n (k a) b → Reaches E n (m >>= k) b
+pub on : {E : Env} {n : ℕ} {A B : Type 0} {m : Asks A} (k : A → Asks B) {a : A} {b : B} → Reaches E n m a →
+    Reaches E n (k a) b → Reaches E n (m >>= k) b
 on {m = m} k h r = record { is = onto _ _ m k _ h.is ∙ r.is }
 
 pub fails : {E : Env} {n : ℕ} {A : Type 0} {p : Premise} → Fails E n {A = A} (Ask.fail p) p
 unfolding within
 fails = record { is = refl }
 
-pub fails_here : {E : Env} {n : ℕ} {A B : Type 0} {m : Asks A} (k : A → Asks B) {p : Premise} → Fails E n m p → Fails E n (m >>= k) p
+pub fails_here : {E : Env} {n : ℕ} {A B : Type 0} {m : Asks A} (k : A → Asks B) {p : Premise} → Fails E n m p →
+    Fails E n (m >>= k) p
 fails_here {m = m} k h = record { is = onto _ _ m k _ h.is }
 
-pub fails_later : {E : Env} {n : ℕ} {A B : Type 0} {m : Asks A} (k : A → Asks B) {a : A} {p : Premise} → Reaches E n m a → Fails E n (k a) p → Fails E n (m >>= k) p
+pub fails_later : {E : Env} {n : ℕ} {A B : Type 0} {m : Asks A} (k : A → Asks B) {a : A} {p : Premise} →
+    Reaches E n m a → Fails E n (k a) p → Fails E n (m >>= k) p
 fails_later {m = m} k h r = record { is = onto _ _ m k _ h.is ∙ r.is }
 
 pub holds : {E : Env} {n : ℕ} (p : Premise) (b : Bool) → b ≡ true → Reaches E n (need b p) tt
@@ -68,12 +77,14 @@ unfolding need
 unmet p b h = rw h fails
 
 -- a refusal of a part is that of the whole
-pub here : (E : Env) (n : ℕ) {A B : Type 0} (m : Asks A) (k : A → Asks B) (e : CoreRefusal) → Refuses E n m e → Refuses E n (m >>= k) e
+pub here : (E : Env) (n : ℕ) {A B : Type 0} (m : Asks A) (k : A → Asks B) (e : CoreRefusal) → Refuses E n m e →
+    Refuses E n (m >>= k) e
 here E n m k (refusal.Fails r i) h = fails_here k h
 here E n m k (refusal.Spent q) h = record { is = onto _ _ m k _ h.is }
 here E n m k refusal.Memory h = tt
 
-pub later : (E : Env) (n : ℕ) {A B : Type 0} (m : Asks A) (k : A → Asks B) (e : CoreRefusal) {a : A} → Reaches E n m a → Refuses E n (k a) e → Refuses E n (m >>= k) e
+pub later : (E : Env) (n : ℕ) {A B : Type 0} (m : Asks A) (k : A → Asks B) (e : CoreRefusal) {a : A} →
+    Reaches E n m a → Refuses E n (k a) e → Refuses E n (m >>= k) e
 later E n m k (refusal.Fails r i) h f = fails_later k h f
 later E n m k (refusal.Spent q) h f = record { is = onto _ _ m k _ h.is ∙ f.is }
 later E n m k refusal.Memory h f = tt
@@ -89,7 +100,8 @@ pub reached : {E : Env} {n : ℕ} {A : Type 0} {m : Asks A} {a b : A} → Reache
 reached {E} {n} {m = m} h e = subst (λ x. Reaches E n m x) e h
 
 -- the last call's answer is that of the whole
-pub tail : (E : Env) (n : ℕ) {A B X : Type 0} (m : Asks A) (k : A → Asks B) (view : X → B) (r : Result X CoreRefusal) {a : A} →
+pub tail : (E : Env) (n : ℕ) {A B X : Type 0} (m : Asks A) (k : A → Asks B) (view : X → B)
+    (r : Result X CoreRefusal) {a : A} →
     Reaches E n m a → Gives E n (k a) view r → Gives E n (m >>= k) view r
 tail E n m k view (Ok x) h f = on k h f
 tail E n m k view (Err e) h f = later E n m k e h f

@@ -11,7 +11,8 @@ use Rattle.qtt_term.specs.Judgement.{Ctx, Part, ext, sub_binds, scale, branch_ty
 use Rattle.qtt_term.specs.Ask.{Ask, ◌>>=◌}
 use Rattle.qtt_term.specs.Items.{family}
 use Rattle.qtt_term.specs.View.{term}
-use Rattle.qtt_term.specs.Infer.{at, Asks, Inferred, inferred, agree, family_of, unbound, is_dead, with_branch, joined_use, field_counts, family_wants, binders_fit, mults_onto, CaseOf, infer}
+use Rattle.qtt_term.specs.Accepted.{is_dead}
+use Rattle.qtt_term.specs.Infer.{at, Asks, Inferred, inferred, agree, family_of, unbound, with_branch, joined_use, field_counts, family_wants, binders_fit, mults_onto, CaseOf, infer}
 use Rattle.qtt_core_check.specs.declared.matching.Matching.{Matching}
 use Rattle.qtt_core_check.specs.Filled.{filled}
 
@@ -47,7 +48,8 @@ branch_asks E p Γ c σ P d b = do
   unbound p (sub_binds σ (scale c.mult d.fields)) b j.uses (at rule.Case 5)
 
 -- branches in order, with the join of those before
-abbrev pub branches_ask : Env → Part → Ctx → CaseOf → (ℕ → Term) → Term → List ConSig → List Term → Option (List Mult) → Asks (Option (List Mult))
+abbrev pub branches_ask : Env → Part → Ctx → CaseOf → (ℕ → Term) → Term → List ConSig → List Term →
+    Option (List Mult) → Asks (Option (List Mult))
 branches_ask E p Γ c σ P (d ∷ ds) (b ∷ bs) joined = do
   u ← branch_asks E p Γ c σ P d b
   branches_ask E p Γ c σ P ds bs (with_branch b u joined)
@@ -58,4 +60,5 @@ abbrev pub scrutinee_asks : Ctx → CaseOf → (ℕ → Term) → Term → Term 
 scrutinee_asks Γ c σ P s joined j = do
   xs ← family_of Γ c.id (length (family_wants c.family)) j.type (at rule.Case 6)
   same ← agree Γ j.type (sub (push (skip (length c.family.params) xs) σ) c.family.self) (at rule.Case 6)
-  Ask.done (inferred (sub (push (skip (length c.family.params) xs +++ (s ▸ ε)) var) P) (usage_sum (usage_scale c.mult j.uses) (joined_use (length Γ) joined)))
+  Ask.done (inferred (sub (push (skip (length c.family.params) xs +++ (s ▸ ε)) var) P)
+      (usage_sum (usage_scale c.mult j.uses) (joined_use (length Γ) joined)))

@@ -10,13 +10,16 @@ pub data FirstSpent (E : Env) (n : ℕ) {F P A : Type 0} : Ask F P A → P → Q
   at_head : {p : P} {d : ℕ} {t : Term} {g : Term → Ask F P A} →
       question.head E n t ≡ question.Head.spent → FirstSpent E n (Ask.head p d t g) p (Question.head_of d t)
   at_compare : {p : P} {d : ℕ} {t s : Term} {m w : Ask F P A} →
-      question.compare E n t s ≡ question.Answer.spent → FirstSpent E n (Ask.compare p d t s m w) p (Question.compared d t s)
+      question.compare E n t s ≡ question.Answer.spent →
+      FirstSpent E n (Ask.compare p d t s m w) p (Question.compared d t s)
   past_head : {p r : P} {d made : ℕ} {t h : Term} {g : Term → Ask F P A} {q : Question} →
       question.head E n t ≡ question.Head.done h made → FirstSpent E n (g h) r q → FirstSpent E n (Ask.head p d t g) r q
   past_equal : {p r : P} {d : ℕ} {t s : Term} {m w : Ask F P A} {q : Question} →
-      question.compare E n t s ≡ question.Answer.equal → FirstSpent E n m r q → FirstSpent E n (Ask.compare p d t s m w) r q
+      question.compare E n t s ≡ question.Answer.equal → FirstSpent E n m r q →
+      FirstSpent E n (Ask.compare p d t s m w) r q
   past_different : {p r : P} {d : ℕ} {t s : Term} {m w : Ask F P A} {q : Question} {path : List ℕ} →
-      question.compare E n t s ≡ question.Answer.different path → FirstSpent E n w r q → FirstSpent E n (Ask.compare p d t s m w) r q
+      question.compare E n t s ≡ question.Answer.different path → FirstSpent E n w r q →
+      FirstSpent E n (Ask.compare p d t s m w) r q
 
 -- what an ending within a budget says: the same ending without one, or the first question that is spent
 abbrev pub Says : Env → ℕ → {F P A : Type 0} → Ask F P A → Ending F P A → Type 0

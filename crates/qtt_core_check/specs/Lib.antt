@@ -1,6 +1,7 @@
 pub mod FirstSpent
 pub mod Filled
 pub mod Seen
+pub mod Calls
 pub mod Signatures
 pub mod Constructors
 pub mod Cases
@@ -10,3 +11,4 @@ pub mod Trapless
 pub mod SmallSorts
 pub mod Meaning
 pub mod Laws
+pub mod Examples

@@ -1,10 +1,6 @@
 -- Terms whose Sorts have a level of 32 bits, and so has the Sort above each.
-use Rattle.std.specs.Prelude.{◌<◌, ◌^◌, ◌-◌}
-use Rattle.qtt_term.specs.Term.{Form, Term, Terms, var, node, ε, ◌▸◌}
-
-abbrev pub IsSmall : Form → Type 0
-IsSmall (Form.sort l) = l < 2 ^ 32 - 1
-IsSmall _ = Unit {0}
+use Rattle.qtt_term.specs.Term.{Term, Terms, var, node, ε, ◌▸◌}
+use Rattle.qtt_term.specs.Accepted.{IsSmall}
 
 abbrev mutual
   pub SmallSorts : Term → Type 0

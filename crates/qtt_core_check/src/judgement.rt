@@ -4,14 +4,15 @@ ghost use Rattle.std.specs.Prelude.{◌≡◌, ◌<◌, ◌++◌, None, Some, If
 ghost use Rattle.qtt_term.specs.Term.{Io, Pi, Lam, App, Fam, Call, Trap};
 ghost use Rattle.qtt_term.specs.Signature.{ConSig, IoTy};
 ghost use Rattle.qtt_term.specs.View.{action, term, terms, branches as branches_of, case as case_term, delete as delete_term, side_by_side};
-ghost use Rattle.qtt_term.specs.Globals.{env};
 ghost use Rattle.qtt_term.specs.Contexts.{part};
 ghost use Rattle.qtt_term.specs.Judgement.{Part};
 ghost use Rattle.qtt_term.specs.Infer.{at, wanted, has, type_of, infer, arguments, joined_use};
 ghost use Rattle.qtt_core_check.specs.Filled.{tele, filled};
-ghost use Rattle.qtt_core_check.specs.Seen.{ctx, Gives, judged};
+ghost use Rattle.qtt_core_check.specs.Seen.{ctx, judged};
+ghost use Rattle.qtt_core_check.specs.Signatures.{applied_to};
 ghost use Rattle.qtt_core_check.specs.TwoLists.{con_parts, act_parts};
 ghost use Rattle.qtt_core_check.specs.Cases.{case_of, motive_of, params_of, branch_asks, branches_ask};
+ghost use Rattle.qtt_core_check.specs.Calls.{Answers, Judges, Counted, env_of};
 
 use crate::filling::fill;
 use crate::judged::Judged;
@@ -20,6 +21,7 @@ use crate::named_rows::io_end;
 use crate::premises::{Checker, same_mult, under, usable};
 use crate::refusal::CoreRefusal;
 use crate::scope::Scope;
+use crate::signatures::Signature;
 use crate::telescopes::{filled_binders, motive_binders, parameter_binders};
 use qtt_base::GlobalId;
 use qtt_prims::{ActKind, Primitive};
@@ -31,8 +33,8 @@ impl<'a, C: Converter> Checker<'a, C> {
     /// The type and the uses of a term.
     #[cycle(judge)]
     pub fn judge(&self, scope: &Scope<'_>, sigma: Sigma, t: &Term) -> Result<Judged, CoreRefusal>
-        ensures gives { Gives (env self.now.globals.now) self.now.budget (infer (env self.now.globals.now) (part sigma) (ctx scope.now) (term t.now)) judged result }
-        ensures len { IfOk result (λ j. length j.uses ≡ length (ctx scope.now)) }
+        ensures gives { Judges self.now (part sigma) scope.now (term t.now) result }
+        ensures len { IfOk result (λ j. Counted scope.now j.uses) }
     {
         match t {
             Term::Var(index) => self.var_row(scope, sigma, *index),
@@ -70,8 +72,9 @@ impl<'a, C: Converter> Checker<'a, C> {
         domain: &Term,
         codomain: &Term,
     ) -> Result<Judged, CoreRefusal>
-        ensures gives { (p : Part) → Gives (env self.now.globals.now) self.now.budget (infer (env self.now.globals.now) p (ctx scope.now) (Pi mult (term domain.now) (term codomain.now))) judged result }
-        ensures len { IfOk result (λ j. length j.uses ≡ length (ctx scope.now)) }
+        ensures gives { (p : Part) → Judges self.now p scope.now
+            (Pi mult (term domain.now) (term codomain.now)) result }
+        ensures len { IfOk result (λ j. Counted scope.now j.uses) }
     {
         let first = self.type_of(scope, domain, Rule::Pi, 1)?;
         let inner = Scope::Bound(&*scope, mult, domain);
@@ -89,8 +92,10 @@ impl<'a, C: Converter> Checker<'a, C> {
         domain: &Term,
         body: &Term,
     ) -> Result<Judged, CoreRefusal>
-        ensures gives { Gives (env self.now.globals.now) self.now.budget (infer (env self.now.globals.now) (part sigma) (ctx scope.now) (Lam mult (term domain.now) (term body.now))) judged result }
-        ensures len { IfOk result (λ j. length j.uses ≡ length (ctx scope.now)) }
+        ensures gives { Judges self.now (part sigma) scope.now
+            (Lam mult (term domain.now) (term body.now))
+            result }
+        ensures len { IfOk result (λ j. Counted scope.now j.uses) }
     {
         self.type_of(scope, domain, Rule::Lam, 1)?;
         let inner = Scope::Bound(&*scope, mult, domain);
@@ -108,8 +113,9 @@ impl<'a, C: Converter> Checker<'a, C> {
         function: &Term,
         argument: &Term,
     ) -> Result<Judged, CoreRefusal>
-        ensures gives { Gives (env self.now.globals.now) self.now.budget (infer (env self.now.globals.now) (part sigma) (ctx scope.now) (App mult (term function.now) (term argument.now))) judged result }
-        ensures len { IfOk result (λ j. length j.uses ≡ length (ctx scope.now)) }
+        ensures gives { Judges self.now (part sigma) scope.now
+            (App mult (term function.now) (term argument.now)) result }
+        ensures len { IfOk result (λ j. Counted scope.now j.uses) }
     {
         let left = self.judge(scope, sigma, function)?;
         let pi = self.function_type(scope, &left.ty, Rule::App, 1)?;
@@ -130,15 +136,12 @@ impl<'a, C: Converter> Checker<'a, C> {
         id: GlobalId,
         args: &[Term],
     ) -> Result<Judged, CoreRefusal>
-        ensures gives { Gives (env self.now.globals.now) self.now.budget (infer (env self.now.globals.now) (part sigma) (ctx scope.now) (Fam id (side_by_side (terms args.now)))) judged result }
-        ensures len { IfOk result (λ j. length j.uses ≡ length (ctx scope.now)) }
+        ensures gives { Judges self.now (part sigma) scope.now
+            (Fam id (side_by_side (terms args.now))) result }
+        ensures len { IfOk result (λ j. Counted scope.now j.uses) }
     {
         let signature = self.family_signature(id, args.len())?;
-        let binders = &signature.arguments;
-        let mut values = Vec::new(self.alloc);
-        let premise = (Rule::Fam, 1);
-        let used = self.arguments(scope, sigma, binders, premise, args, &mut values)?;
-        self.applied(&signature.ty, &values, used)
+        self.signature_row(scope, sigma, &signature, (Rule::Fam, 1), args)
     }
 
     /// The rule of constructors.
@@ -151,8 +154,9 @@ impl<'a, C: Converter> Checker<'a, C> {
         params: &[Term],
         fields: &[Term],
     ) -> Result<Judged, CoreRefusal>
-        ensures gives { Gives (env self.now.globals.now) self.now.budget (infer (env self.now.globals.now) (part sigma) (ctx scope.now) (con_parts con.family con.place params.now fields.now)) judged result }
-        ensures len { IfOk result (λ j. length j.uses ≡ length (ctx scope.now)) }
+        ensures gives { Judges self.now (part sigma) scope.now
+            (con_parts con.family con.place params.now fields.now) result }
+        ensures len { IfOk result (λ j. Counted scope.now j.uses) }
     {
         let made = self.constructor(con, params.len(), fields.len())?;
         let mut values = Vec::new(self.alloc);
@@ -169,8 +173,9 @@ impl<'a, C: Converter> Checker<'a, C> {
     /// The rule of `IO`, of either kind.
     #[cycle(judge)]
     fn io_row(&self, scope: &Scope<'_>, of: &Term) -> Result<Judged, CoreRefusal>
-        ensures gives { (p : Part) (m : Io) → Gives (env self.now.globals.now) self.now.budget (infer (env self.now.globals.now) p (ctx scope.now) (IoTy m (term of.now))) judged result }
-        ensures len { IfOk result (λ j. length j.uses ≡ length (ctx scope.now)) }
+        ensures gives { (p : Part) (m : Io) →
+            Judges self.now p scope.now (IoTy m (term of.now)) result }
+        ensures len { IfOk result (λ j. Counted scope.now j.uses) }
     {
         let used = self.has(scope, Sigma::Erased, of, &Term::Sort(0), Rule::PrimTy, 1)?;
         Ok(io_end(used))
@@ -185,13 +190,33 @@ impl<'a, C: Converter> Checker<'a, C> {
         prim: Primitive,
         args: &[Term],
     ) -> Result<Judged, CoreRefusal>
-        ensures gives { Gives (env self.now.globals.now) self.now.budget (infer (env self.now.globals.now) (part sigma) (ctx scope.now) (Call prim (side_by_side (terms args.now)))) judged result }
-        ensures len { IfOk result (λ j. length j.uses ≡ length (ctx scope.now)) }
+        ensures gives { Judges self.now (part sigma) scope.now
+            (Call prim (side_by_side (terms args.now)))
+            result }
+        ensures len { IfOk result (λ j. Counted scope.now j.uses) }
     {
         let signature = self.prim_signature(prim, args.len())?;
+        self.signature_row(scope, sigma, &signature, (Rule::Prim, 1), args)
+    }
+
+    /// The rule of a form whose components are the arguments of a signature.
+    #[cycle(judge)]
+    fn signature_row(
+        &self,
+        scope: &Scope<'_>,
+        sigma: Sigma,
+        signature: &Signature,
+        premise: (Rule, u8),
+        args: &[Term],
+    ) -> Result<Judged, CoreRefusal>
+        requires { length signature.now.arguments.items ≡ length args.now }
+        ensures gives { Answers self.now
+            (applied_to (env_of self.now) (part sigma) (ctx scope.now)
+            (at premise.0 premise.1) signature.now args.now) judged result }
+        ensures len { IfOk result (λ j. Counted scope.now j.uses) }
+    {
         let binders = &signature.arguments;
         let mut values = Vec::new(self.alloc);
-        let premise = (Rule::Prim, 1);
         let used = self.arguments(scope, sigma, binders, premise, args, &mut values)?;
         self.applied(&signature.ty, &values, used)
     }
@@ -206,8 +231,10 @@ impl<'a, C: Converter> Checker<'a, C> {
         types: &[Term],
         args: &[Term],
     ) -> Result<Judged, CoreRefusal>
-        ensures gives { Gives (env self.now.globals.now) self.now.budget (infer (env self.now.globals.now) (part sigma) (ctx scope.now) (act_parts (action kind) types.now args.now)) judged result }
-        ensures len { IfOk result (λ j. length j.uses ≡ length (ctx scope.now)) }
+        ensures gives { Judges self.now (part sigma) scope.now
+            (act_parts (action kind) types.now args.now)
+            result }
+        ensures len { IfOk result (λ j. Counted scope.now j.uses) }
     {
         let signature = self.act_signature(kind, types.len(), args.len())?;
         let (front, back) = signature.arguments.split_at(types.len());
@@ -222,8 +249,8 @@ impl<'a, C: Converter> Checker<'a, C> {
     /// The rule of missing clauses.
     #[cycle(judge)]
     fn trap_row(&self, scope: &Scope<'_>, of: &Term) -> Result<Judged, CoreRefusal>
-        ensures gives { (p : Part) → Gives (env self.now.globals.now) self.now.budget (infer (env self.now.globals.now) p (ctx scope.now) (Trap (term of.now))) judged result }
-        ensures len { IfOk result (λ j. length j.uses ≡ length (ctx scope.now)) }
+        ensures gives { (p : Part) → Judges self.now p scope.now (Trap (term of.now)) result }
+        ensures len { IfOk result (λ j. Counted scope.now j.uses) }
     {
         self.type_of(scope, of, Rule::Trap, 1)?;
         self.plain_row(scope, of.copy(self.alloc)?)
@@ -240,8 +267,11 @@ impl<'a, C: Converter> Checker<'a, C> {
         rule: Rule,
         premise: u8,
     ) -> Result<Usage, CoreRefusal>
-        ensures gives { Gives (env self.now.globals.now) self.now.budget (has (ctx scope.now) (infer (env self.now.globals.now) (part sigma) (ctx scope.now) (term t.now)) (term ty.now) (at rule premise)) (λ u. u) result }
-        ensures len { IfOk result (λ u. length u ≡ length (ctx scope.now)) }
+        ensures gives { Answers self.now
+            (has (ctx scope.now)
+            (infer (env_of self.now) (part sigma) (ctx scope.now) (term t.now))
+            (term ty.now) (at rule premise)) (λ u. u) result }
+        ensures len { IfOk result (λ u. Counted scope.now u) }
     {
         let found = self.judge(scope, sigma, t)?;
         self.agree(scope, &found.ty, ty, rule, premise)?;
@@ -257,7 +287,10 @@ impl<'a, C: Converter> Checker<'a, C> {
         rule: Rule,
         premise: u8,
     ) -> Result<u32, CoreRefusal>
-        ensures { Gives (env self.now.globals.now) self.now.budget (type_of (ctx scope.now) (infer (env self.now.globals.now) Part.erased (ctx scope.now) (term t.now)) (at rule premise)) (λ l. l) result }
+        ensures { Answers self.now
+            (type_of (ctx scope.now)
+            (infer (env_of self.now) Part.erased (ctx scope.now) (term t.now))
+            (at rule premise)) (λ l. l) result }
     {
         let found = self.judge(scope, Sigma::Erased, t)?;
         self.sort(scope, &found.ty, rule, premise)
@@ -275,9 +308,13 @@ impl<'a, C: Converter> Checker<'a, C> {
         values: &mut Vec<Term>,
     ) -> Result<Usage, CoreRefusal>
         requires { length binders.now ≡ length args.now }
-        ensures gives { Gives (env self.now.globals.now) self.now.budget (arguments (env self.now.globals.now) (part sigma) (ctx scope.now) (wanted (at premise.0 premise.1) (tele binders.now)) (filled values.old.items) (side_by_side (terms args.now))) (λ u. u) result }
-        ensures values { OnOk result (terms values.new.items ≡ terms values.old.items ++ terms args.now) }
-        ensures len { IfOk result (λ u. length u ≡ length (ctx scope.now)) }
+        ensures gives { Answers self.now
+            (arguments (env_of self.now) (part sigma) (ctx scope.now)
+            (wanted (at premise.0 premise.1) (tele binders.now))
+            (filled values.old.items) (side_by_side (terms args.now))) (λ u. u) result }
+        ensures values { OnOk result
+            (terms values.new.items ≡ terms values.old.items ++ terms args.now) }
+        ensures len { IfOk result (λ u. Counted scope.now u) }
     {
         let depth = scope.depth()?;
         let mut uses = Usage::zero(self.alloc, depth as usize)?;
@@ -296,8 +333,8 @@ impl<'a, C: Converter> Checker<'a, C> {
     /// The rule of matches.
     #[cycle(judge)]
     fn case(&self, scope: &Scope<'_>, sigma: Sigma, case: &Case) -> Result<Judged, CoreRefusal>
-        ensures gives { Gives (env self.now.globals.now) self.now.budget (infer (env self.now.globals.now) (part sigma) (ctx scope.now) (case_term case.now)) judged result }
-        ensures len { IfOk result (λ j. length j.uses ≡ length (ctx scope.now)) }
+        ensures gives { Judges self.now (part sigma) scope.now (case_term case.now) result }
+        ensures len { IfOk result (λ j. Counted scope.now j.uses) }
     {
         let family = self.case_family(
             sigma,
@@ -343,8 +380,13 @@ impl<'a, C: Converter> Checker<'a, C> {
         branches: &[Branch],
     ) -> Result<Option<Usage>, CoreRefusal>
         requires { length branches.now ≡ length matching.now.family.now.constructors.items }
-        ensures gives { Gives (env self.now.globals.now) self.now.budget (branches_ask (env self.now.globals.now) (part sigma) (ctx scope.now) (case_of matching.now) (params_of matching.now) (motive_of matching.now) (case_of matching.now).family.constructors (map (λ b. b.1) (branches_of branches.now)) None) (λ u. u) result }
-        ensures len { IfOk result (λ u. length (joined_use (length (ctx scope.now)) u) ≡ length (ctx scope.now)) }
+        ensures gives { Answers self.now
+            (branches_ask (env_of self.now) (part sigma) (ctx scope.now)
+            (case_of matching.now) (params_of matching.now) (motive_of matching.now)
+            (case_of matching.now).family.constructors
+            (map (λ b. b.1) (branches_of branches.now)) None) (λ u. u) result }
+        ensures len { IfOk result
+            (λ u. length (joined_use (length (ctx scope.now)) u) ≡ length (ctx scope.now)) }
     {
         let mut joined = None;
         for (place, branch) in branches.iter().enumerate() {
@@ -365,8 +407,13 @@ impl<'a, C: Converter> Checker<'a, C> {
         body: &Term,
     ) -> Result<Usage, CoreRefusal>
         requires { place < length matching.now.family.now.constructors.items }
-        ensures gives { (d : ConSig) → slice_get (case_of matching.now).family.constructors place ≡ Some d → Gives (env self.now.globals.now) self.now.budget (branch_asks (env self.now.globals.now) (part sigma) (ctx scope.now) (case_of matching.now) (params_of matching.now) (motive_of matching.now) d (term body.now)) (λ u. u) result }
-        ensures len { IfOk result (λ u. length u ≡ length (ctx scope.now)) }
+        ensures gives { (d : ConSig) →
+            slice_get (case_of matching.now).family.constructors place ≡ Some d →
+            Answers self.now
+            (branch_asks (env_of self.now) (part sigma) (ctx scope.now)
+            (case_of matching.now) (params_of matching.now) (motive_of matching.now) d
+            (term body.now)) (λ u. u) result }
+        ensures len { IfOk result (λ u. Counted scope.now u) }
     {
         let constructor = &matching.family.constructors[place];
         let binders = filled_binders(
@@ -390,8 +437,8 @@ impl<'a, C: Converter> Checker<'a, C> {
         sigma: Sigma,
         delete: &Delete,
     ) -> Result<Judged, CoreRefusal>
-        ensures gives { Gives (env self.now.globals.now) self.now.budget (infer (env self.now.globals.now) (part sigma) (ctx scope.now) (delete_term delete.now)) judged result }
-        ensures len { IfOk result (λ j. length j.uses ≡ length (ctx scope.now)) }
+        ensures gives { Judges self.now (part sigma) scope.now (delete_term delete.now) result }
+        ensures len { IfOk result (λ j. Counted scope.now j.uses) }
     {
         if !usable(sigma, delete.mult) {
             return Err(CoreRefusal::Fails(Rule::Delete, 1));

@@ -1,7 +1,7 @@
 //! Premises and results of the rule of matches.
 
 ghost use Rattle.std.specs.Prelude.{◌≡◌, ◌+◌, ◌<◌, ◌≤◌, ◌&&◌, Some, IfOk, MatchResult, map, length, slice_get, eqb};
-ghost use Rattle.qtt_term.specs.Signature.{ConSig, fam_sig, fam_at};
+ghost use Rattle.qtt_term.specs.Signature.{ConSig, fam_at};
 ghost use Rattle.qtt_term.specs.Judgement.{branch_type as type_of_branch};
 ghost use Rattle.qtt_usage.specs.Usage.{usage_sum, usage_scale};
 ghost use Rattle.qtt_term.specs.Term.{var, ε, ◌▸◌, ◌+++◌};
@@ -9,12 +9,12 @@ ghost use Rattle.qtt_term.specs.Substitution.{sub, push};
 ghost use Rattle.qtt_term.specs.Question.{same_counts};
 ghost use Rattle.qtt_term.specs.Items.{family as family_of};
 ghost use Rattle.qtt_term.specs.View.{term, terms, branch as branch_of, branches as branches_of, side_by_side};
-ghost use Rattle.qtt_term.specs.Globals.{env};
 ghost use Rattle.qtt_term.specs.Contexts.{part};
 ghost use Rattle.qtt_term.specs.Infer.{at, need, is_there, usable, unbound, with_branch, joined_use};
-ghost use Rattle.qtt_core_check.specs.Filled.{tele, filled};
-ghost use Rattle.qtt_core_check.specs.Seen.{ctx, Gives, judged};
+ghost use Rattle.qtt_core_check.specs.Filled.{tele};
+ghost use Rattle.qtt_core_check.specs.Seen.{ctx, judged};
 ghost use Rattle.qtt_core_check.specs.Cases.{case_of, motive_of, params_of, shaped, scrutinee_asks, fit_newest, fits_within};
+ghost use Rattle.qtt_core_check.specs.Calls.{Answers, Counted, env_of};
 ghost use Rattle.qtt_core_check.specs.declared.refusal.CoreRefusal.TheVariants.{Memory};
 
 use crate::filling::fill;
@@ -30,7 +30,8 @@ use qtt_term::{Branch, ConId, Constructor, Converter, Family, Rule, Sigma, Term}
 use qtt_usage::mult::Mult;
 use qtt_usage::usage::Usage;
 
-/// A Case whose numbers of components are its family's: the family at these parameters, and the motive.
+/// A Case whose numbers of components are its family's: the family at these parameters, and the
+/// motive.
 #[derive(Drop)]
 pub struct Matching<'a> {
     pub mult: Mult,
@@ -40,9 +41,11 @@ pub struct Matching<'a> {
     pub motive: &'a Term,
 }
 
-/// Each branch stands under as many binders as its constructor has fields, and there is one for each.
+/// Each branch stands under as many binders as its constructor has fields, and there is one for
+/// each.
 fn same_counts(branches: &[Branch], constructors: &[Constructor]) -> bool
-    ensures { result ≡ same_counts (map (λ b. b.0) (branches_of branches.now)) (map (λ c. length c.fields.items) constructors.now) }
+    ensures { result ≡ same_counts (map (λ b. b.0) (branches_of branches.now))
+        (map (λ c. length c.fields.items) constructors.now) }
 {
     if branches.len() != constructors.len() {
         return false;
@@ -64,7 +67,11 @@ fn fields(branch: &Branch) -> usize
 
 /// The numbers of parameters, indices and branches with fields are the family's.
 fn shaped(family: &Family, params: usize, indices: u32, branches: &[Branch]) -> bool
-    ensures { result ≡ (eqb params (length family.now.params.items) && (eqb indices (length family.now.indices.items) && same_counts (map (λ b. b.0) (branches_of branches.now)) (map (λ c. length c.fields.items) family.now.constructors.items))) }
+    ensures { result ≡
+        (eqb params (length family.now.params.items) &&
+        (eqb indices (length family.now.indices.items) && same_counts
+        (map (λ b. b.0) (branches_of branches.now))
+        (map (λ c. length c.fields.items) family.now.constructors.items))) }
 {
     let counted = both(
         indices as usize == family.indices.len(),
@@ -73,7 +80,8 @@ fn shaped(family: &Family, params: usize, indices: u32, branches: &[Branch]) -> 
     both(params == family.params.len(), counted)
 }
 
-/// What the binders of a component are used for fits, in the run part and where the component is not dead.
+/// What the binders of a component are used for fits, in the run part and where the component is
+/// not dead.
 fn fits_within(sigma: Sigma, body: &Term, fit: bool) -> bool
     ensures { result ≡ fits_within (part sigma) (term body.now) fit }
 {
@@ -123,7 +131,8 @@ pub fn with_branch(body: &Term, used: Usage, joined: Option<Usage>) -> Option<Us
 }
 
 impl<'a, C: Converter> Checker<'a, C> {
-    /// The family of a Case which has its numbers of components, and whose scrutinee may be used.
+    /// The family of a Case which has its numbers of components, and whose scrutinee may be
+    /// used.
     pub fn case_family(
         &self,
         sigma: Sigma,
@@ -133,10 +142,16 @@ impl<'a, C: Converter> Checker<'a, C> {
         indices: u32,
         branches: &[Branch],
     ) -> Result<&'a Family, CoreRefusal>
-        ensures gives { Gives (env self.now.globals.now) self.now.budget (need (is_there ((env self.now.globals.now).family id) && (usable (part sigma) mult && shaped (fam_at (env self.now.globals.now) id) params (indices + 1) (map (λ b. b.0) (branches_of branches.now)))) (at Rule.Case 1)) (λ F. tt) result }
-        ensures found { IfOk result (λ F. (env self.now.globals.now).family id ≡ Some (family_of F.now)) }
+        ensures gives { Answers self.now
+            (need
+            (is_there ((env_of self.now).family id) &&
+            (usable (part sigma) mult && shaped (fam_at (env_of self.now) id)
+            params (indices + 1) (map (λ b. b.0) (branches_of branches.now))))
+            (at Rule.Case 1)) (λ F. tt) result }
+        ensures found { IfOk result (λ F. (env_of self.now).family id ≡ Some (family_of F.now)) }
         ensures params { IfOk result (λ F. length F.now.params.items ≡ params) }
-        ensures branches { IfOk result (λ F. length branches.now ≡ length F.now.constructors.items) }
+        ensures branches { IfOk result
+            (λ F. length branches.now ≡ length F.now.constructors.items) }
     {
         let Some(family) = self.globals.family(id) else {
             return Err(CoreRefusal::Fails(Rule::Case, 1));
@@ -153,7 +168,11 @@ impl<'a, C: Converter> Checker<'a, C> {
     /// The type of the branch of a constructor, under its fields.
     pub fn branch_type(&self, matching: &Matching<'_>, place: usize) -> Result<Term, CoreRefusal>
         requires { place < length matching.now.family.now.constructors.items }
-        ensures { (d : ConSig) → slice_get (case_of matching.now).family.constructors place ≡ Some d → MatchResult result (λ t. term t ≡ type_of_branch (params_of matching.now) d (motive_of matching.now)) (λ e. e ≡ Memory) }
+        ensures { (d : ConSig) → slice_get (case_of matching.now).family.constructors place ≡
+            Some d →
+            MatchResult result
+            (λ t. term t ≡ type_of_branch (params_of matching.now) d (motive_of matching.now))
+            (λ e. e ≡ Memory) }
     {
         let family = matching.family;
         let con = ConId {
@@ -179,7 +198,9 @@ impl<'a, C: Converter> Checker<'a, C> {
         uses: Usage,
     ) -> Result<Usage, CoreRefusal>
         requires { length binders.now ≤ length uses }
-        ensures gives { Gives (env self.now.globals.now) self.now.budget (unbound (part sigma) (tele binders.now) (term body.now) uses (at Rule.Case 5)) (λ u. u) result }
+        ensures gives { Answers self.now
+            (unbound (part sigma) (tele binders.now) (term body.now) uses (at Rule.Case 5))
+            (λ u. u) result }
         ensures len { IfOk result (λ u. length u + length binders.now ≡ length uses) }
     {
         let (fit, uses) = fit_binders(binders, uses);
@@ -191,7 +212,10 @@ impl<'a, C: Converter> Checker<'a, C> {
 
     /// The family of a match at its parameters and these indices.
     fn scrutinee_type(&self, matching: &Matching<'_>, indices: &[Term]) -> Result<Term, CoreRefusal>
-        ensures { MatchResult result (λ t. term t ≡ sub (push (side_by_side (terms indices.now)) (params_of matching.now)) (case_of matching.now).family.self) (λ e. e ≡ Memory) }
+        ensures { MatchResult result
+            (λ t. term t ≡ sub
+            (push (side_by_side (terms indices.now)) (params_of matching.now))
+            (case_of matching.now).family.self) (λ e. e ≡ Memory) }
     {
         let params = copy_all(self.alloc, matching.params)?;
         let values = joined(params, copy_all(self.alloc, indices)?)?;
@@ -206,7 +230,10 @@ impl<'a, C: Converter> Checker<'a, C> {
         indices: Vec<Term>,
         scrutinee: &Term,
     ) -> Result<Term, CoreRefusal>
-        ensures { MatchResult result (λ t. term t ≡ sub (push (side_by_side (terms indices.items) +++ (term scrutinee.now ▸ ε)) var) (motive_of matching.now)) (λ e. e ≡ Memory) }
+        ensures { MatchResult result
+            (λ t. term t ≡ sub
+            (push (side_by_side (terms indices.items) +++ (term scrutinee.now ▸ ε)) var)
+            (motive_of matching.now)) (λ e. e ≡ Memory) }
     {
         let mut indices = indices;
         indices.push(scrutinee.copy(self.alloc)?)?;
@@ -223,9 +250,13 @@ impl<'a, C: Converter> Checker<'a, C> {
         joined: Option<Usage>,
     ) -> Result<Judged, CoreRefusal>
         requires found { length found.uses ≡ length (ctx scope.now) }
-        requires joined { length (joined_use (length (ctx scope.now)) joined) ≡ length (ctx scope.now) }
-        ensures gives { Gives (env self.now.globals.now) self.now.budget (scrutinee_asks (ctx scope.now) (case_of matching.now) (params_of matching.now) (motive_of matching.now) (term scrutinee.now) joined (judged found)) judged result }
-        ensures len { IfOk result (λ j. length j.uses ≡ length (ctx scope.now)) }
+        requires joined { length (joined_use (length (ctx scope.now)) joined) ≡ length
+            (ctx scope.now) }
+        ensures gives { Answers self.now
+            (scrutinee_asks (ctx scope.now) (case_of matching.now) (params_of matching.now)
+            (motive_of matching.now) (term scrutinee.now) joined (judged found)) judged
+            result }
+        ensures len { IfOk result (λ j. Counted scope.now j.uses) }
     {
         let count = matching.family.params.len();
         let whole = sum(count, matching.family.indices.len())?;
@@ -244,7 +275,8 @@ impl<'a, C: Converter> Checker<'a, C> {
 /// The uses of a match, whose scrutinee is used so often.
 fn match_uses(mult: Mult, scrutinee: Usage, joined: Option<Usage>) -> Usage
     requires { length (joined_use (length scrutinee) joined) ≡ length scrutinee }
-    ensures uses { result ≡ usage_sum (usage_scale mult scrutinee) (joined_use (length scrutinee) joined) }
+    ensures uses { result ≡ usage_sum (usage_scale mult scrutinee)
+        (joined_use (length scrutinee) joined) }
     ensures len { length result ≡ length scrutinee }
 {
     let mut uses = scrutinee;

@@ -1,20 +1,21 @@
 //! The rules of forms with arguments: their signatures, and their results.
 
-ghost use Rattle.std.specs.Prelude.{◌≡◌, ◌+◌, ◌&&◌, ◌++◌, Some, IfOk, MatchResult, map, length, eqb};
+ghost use Rattle.std.specs.Prelude.{◌≡◌, ◌+◌, ◌&&◌, ◌++◌, Some, IfOk, MatchResult, length, eqb};
 ghost use Rattle.qtt_usage.specs.Mult.{𝟘};
 ghost use Rattle.qtt_usage.specs.Usage.{no_usage, usage_sum, usage_scale};
-ghost use Rattle.qtt_term.specs.Term.{Named, Form, node, ε, Sort, Def};
+ghost use Rattle.qtt_term.specs.Term.{Sort, Def};
 ghost use Rattle.qtt_term.specs.Substitution.{sub, inst};
 ghost use Rattle.qtt_term.specs.Signature.{fam_at, prim_signature, act_signature, EqTy, Refl};
 ghost use Rattle.qtt_term.specs.Judgement.{erase_binds};
 ghost use Rattle.qtt_term.specs.View.{term, action};
-ghost use Rattle.qtt_term.specs.Globals.{env};
 ghost use Rattle.qtt_term.specs.Contexts.{part};
-ghost use Rattle.qtt_term.specs.Infer.{at, need, is_there, infer, inferred, family_wants};
+ghost use Rattle.qtt_term.specs.Infer.{at, need, is_there, inferred, family_wants};
 ghost use Rattle.qtt_core_check.specs.Filled.{tele, filled};
 ghost use Rattle.qtt_core_check.specs.Signatures.{signature, lit_type};
 ghost use Rattle.qtt_core_check.specs.Constructors.{made_shaped, IsMade};
-ghost use Rattle.qtt_core_check.specs.Seen.{ctx, Gives, judged};
+ghost use Rattle.qtt_core_check.specs.TwoLists.{act_shaped};
+ghost use Rattle.qtt_core_check.specs.Seen.{ctx, judged};
+ghost use Rattle.qtt_core_check.specs.Calls.{Answers, Judges, Counted, env_of};
 ghost use Rattle.qtt_core_check.specs.declared.refusal.CoreRefusal.TheVariants.{Memory};
 
 use crate::filling::fill;
@@ -22,7 +23,7 @@ use crate::judged::Judged;
 use crate::premises::{Checker, sum, usable};
 use crate::refusal::CoreRefusal;
 use crate::scope::Scope;
-use crate::signatures::{Signature, action_signature, primitive_signature};
+use crate::signatures::{Signature, action_signature, primitive_signature, type_arguments};
 use crate::telescopes::{copied_binders, family_binders, parameter_binders, result_type};
 use qtt_base::{GlobalId, ModuleId};
 use qtt_prims::{ActKind, Lit, Primitive};
@@ -54,8 +55,10 @@ pub fn io_end(used: Usage) -> Judged
 impl<'a, C: Converter> Checker<'a, C> {
     /// A term of this type that uses nothing.
     pub fn plain_row(&self, scope: &Scope<'_>, ty: Term) -> Result<Judged, CoreRefusal>
-        ensures gives { MatchResult result (λ j. judged j ≡ inferred (term ty) (no_usage (length (ctx scope.now)))) (λ e. e ≡ Memory) }
-        ensures len { IfOk result (λ j. length j.uses ≡ length (ctx scope.now)) }
+        ensures gives { MatchResult result
+            (λ j. judged j ≡ inferred (term ty) (no_usage (length (ctx scope.now))))
+            (λ e. e ≡ Memory) }
+        ensures len { IfOk result (λ j. Counted scope.now j.uses) }
     {
         let depth = scope.depth()?;
         Ok(Judged {
@@ -71,8 +74,8 @@ impl<'a, C: Converter> Checker<'a, C> {
         sigma: Sigma,
         id: GlobalId,
     ) -> Result<Judged, CoreRefusal>
-        ensures gives { Gives (env self.now.globals.now) self.now.budget (infer (env self.now.globals.now) (part sigma) (ctx scope.now) (Def id)) judged result }
-        ensures len { IfOk result (λ j. length j.uses ≡ length (ctx scope.now)) }
+        ensures gives { Judges self.now (part sigma) scope.now (Def id) result }
+        ensures len { IfOk result (λ j. Counted scope.now j.uses) }
     {
         let Some(definition) = self.globals.definition(id) else {
             return Err(CoreRefusal::Fails(Rule::Def, 1));
@@ -86,8 +89,10 @@ impl<'a, C: Converter> Checker<'a, C> {
 
     /// The rule of literals.
     pub fn lit_row(&self, scope: &Scope<'_>, lit: &Lit) -> Result<Judged, CoreRefusal>
-        ensures gives { MatchResult result (λ j. judged j ≡ inferred (lit_type lit.now) (no_usage (length (ctx scope.now)))) (λ e. e ≡ Memory) }
-        ensures len { IfOk result (λ j. length j.uses ≡ length (ctx scope.now)) }
+        ensures gives { MatchResult result
+            (λ j. judged j ≡ inferred (lit_type lit.now) (no_usage (length (ctx scope.now))))
+            (λ e. e ≡ Memory) }
+        ensures len { IfOk result (λ j. Counted scope.now j.uses) }
     {
         match lit {
             Lit::Int(_) => self.plain_row(scope, Term::IntTy),
@@ -97,7 +102,9 @@ impl<'a, C: Converter> Checker<'a, C> {
 
     /// The type at these values, and the uses of the arguments.
     pub fn applied(&self, ty: &Term, values: &[Term], uses: Usage) -> Result<Judged, CoreRefusal>
-        ensures gives { MatchResult result (λ j. judged j ≡ inferred (sub (filled values.now) (term ty.now)) uses) (λ e. e ≡ Memory) }
+        ensures gives { MatchResult result
+            (λ j. judged j ≡ inferred (sub (filled values.now) (term ty.now)) uses)
+            (λ e. e ≡ Memory) }
         ensures len { IfOk result (λ j. length j.uses ≡ length uses) }
     {
         Ok(Judged {
@@ -108,9 +115,16 @@ impl<'a, C: Converter> Checker<'a, C> {
 
     /// The signature of a family that is there, of so many parameters and indices.
     pub fn family_signature(&self, id: GlobalId, count: usize) -> Result<Signature, CoreRefusal>
-        ensures gives { Gives (env self.now.globals.now) self.now.budget (need (is_there ((env self.now.globals.now).family id) && eqb count (length (family_wants (fam_at (env self.now.globals.now) id)))) (at Rule.Fam 1)) (λ s. tt) result }
-        ensures arguments { IfOk result (λ s. tele s.arguments.items ≡ erase_binds ((fam_at (env self.now.globals.now) id).params ++ (fam_at (env self.now.globals.now) id).indices)) }
-        ensures ty { IfOk result (λ s. term s.ty ≡ Sort (fam_at (env self.now.globals.now) id).level) }
+        ensures gives { Answers self.now
+            (need
+            (is_there ((env_of self.now).family id) && eqb count
+            (length (family_wants (fam_at (env_of self.now) id)))) (at Rule.Fam 1))
+            (λ s. tt) result }
+        ensures arguments { IfOk result
+            (λ s. tele s.arguments.items ≡ erase_binds
+            ((fam_at (env_of self.now) id).params ++
+            (fam_at (env_of self.now) id).indices)) }
+        ensures ty { IfOk result (λ s. term s.ty ≡ Sort (fam_at (env_of self.now) id).level) }
         ensures len { IfOk result (λ s. length s.arguments.items ≡ count) }
     {
         let Some(family) = self.globals.family(id) else {
@@ -126,8 +140,11 @@ impl<'a, C: Converter> Checker<'a, C> {
 
     /// What a constructor that is there asks, of so many parameters and fields.
     pub fn constructor(&self, con: ConId, params: usize, fields: usize) -> Result<Made, CoreRefusal>
-        ensures gives { Gives (env self.now.globals.now) self.now.budget (need (made_shaped (fam_at (env self.now.globals.now) con.family) con.place params (params + fields)) (at Rule.Con 1)) (λ m. tt) result }
-        ensures made { IfOk result (λ m. IsMade (fam_at (env self.now.globals.now) con.family) con.place m) }
+        ensures gives { Answers self.now
+            (need
+            (made_shaped (fam_at (env_of self.now) con.family) con.place params
+            (params + fields)) (at Rule.Con 1)) (λ m. tt) result }
+        ensures made { IfOk result (λ m. IsMade (fam_at (env_of self.now) con.family) con.place m) }
         ensures params { IfOk result (λ m. length m.params.items ≡ params) }
         ensures fields { IfOk result (λ m. length m.fields.items ≡ fields) }
     {
@@ -152,7 +169,9 @@ impl<'a, C: Converter> Checker<'a, C> {
 
     /// The signature of a primitive of so many arguments.
     pub fn prim_signature(&self, prim: Primitive, count: usize) -> Result<Signature, CoreRefusal>
-        ensures gives { Gives (env self.now.globals.now) self.now.budget (need (eqb count (length (prim_signature prim).arguments)) (at Rule.Prim 1)) (λ s. tt) result }
+        ensures gives { Answers self.now
+            (need (eqb count (length (prim_signature prim).arguments)) (at Rule.Prim 1))
+            (λ s. tt) result }
         ensures signature { IfOk result (λ s. signature s ≡ prim_signature prim) }
         ensures len { IfOk result (λ s. length s.arguments.items ≡ count) }
     {
@@ -170,13 +189,15 @@ impl<'a, C: Converter> Checker<'a, C> {
         types: usize,
         args: usize,
     ) -> Result<Signature, CoreRefusal>
-        ensures gives { Gives (env self.now.globals.now) self.now.budget (need (eqb (types + args) (length (act_signature (action kind)).arguments)) (at Rule.Act 1)) (λ s. tt) result }
+        ensures gives { Answers self.now
+            (need (act_shaped (action kind) types (types + args)) (at Rule.Act 1))
+            (λ s. tt) result }
         ensures signature { IfOk result (λ s. signature s ≡ act_signature (action kind)) }
         ensures len { IfOk result (λ s. length s.arguments.items ≡ types + args) }
     {
         let count = sum(types, args)?;
         let signature = action_signature(self.alloc, kind)?;
-        if signature.arguments.len() != count {
+        if types != type_arguments(kind) || signature.arguments.len() != count {
             return Err(CoreRefusal::Fails(Rule::Act, 1));
         }
         Ok(signature)
@@ -184,7 +205,9 @@ impl<'a, C: Converter> Checker<'a, C> {
 
     /// The type of proofs that a point equals itself.
     pub fn equality(&self, ty: &Term, point: &Term) -> Result<Term, CoreRefusal>
-        ensures { MatchResult result (λ t. term t ≡ EqTy (term ty.now) (term point.now) (term point.now)) (λ e. e ≡ Memory) }
+        ensures { MatchResult result
+            (λ t. term t ≡ EqTy (term ty.now) (term point.now) (term point.now))
+            (λ e. e ≡ Memory) }
     {
         let id = GlobalId {
             module: ModuleId(0),
@@ -198,7 +221,8 @@ impl<'a, C: Converter> Checker<'a, C> {
 
     /// The proof by reflexivity that a point equals itself.
     fn reflexivity(&self, ty: &Term, point: &Term) -> Result<Term, CoreRefusal>
-        ensures { MatchResult result (λ t. term t ≡ Refl (term ty.now) (term point.now)) (λ e. e ≡ Memory) }
+        ensures { MatchResult result (λ t. term t ≡ Refl (term ty.now) (term point.now))
+            (λ e. e ≡ Memory) }
     {
         let con = ConId {
             family: GlobalId {
@@ -215,7 +239,9 @@ impl<'a, C: Converter> Checker<'a, C> {
 
     /// The motive of a deletion at the proof by reflexivity.
     pub fn at_refl(&self, ty: &Term, point: &Term, motive: &Term) -> Result<Term, CoreRefusal>
-        ensures { MatchResult result (λ t. term t ≡ inst (term motive.now) (Refl (term ty.now) (term point.now))) (λ e. e ≡ Memory) }
+        ensures { MatchResult result
+            (λ t. term t ≡ inst (term motive.now) (Refl (term ty.now) (term point.now)))
+            (λ e. e ≡ Memory) }
     {
         let proof = [self.reflexivity(ty, point)?];
         Ok(motive.subst(self.alloc, &proof)?)
@@ -231,7 +257,9 @@ impl<'a, C: Converter> Checker<'a, C> {
         used: Usage,
     ) -> Result<Judged, CoreRefusal>
         requires { length branch ≡ length used }
-        ensures gives { MatchResult result (λ j. judged j ≡ inferred (inst (term motive.now) (term scrutinee.now)) (usage_sum (usage_scale mult used) branch)) (λ e. e ≡ Memory) }
+        ensures gives { MatchResult result
+            (λ j. judged j ≡ inferred (inst (term motive.now) (term scrutinee.now))
+            (usage_sum (usage_scale mult used) branch)) (λ e. e ≡ Memory) }
         ensures len { IfOk result (λ j. length j.uses ≡ length used) }
     {
         let value = [scrutinee.copy(self.alloc)?];

@@ -3,24 +3,25 @@
 ghost use Rattle.std.specs.Prelude.{◌≡◌, ◌+◌, ◌<◌, IfOk, MatchResult, length};
 ghost use Rattle.qtt_usage.specs.Mult.{same_mult};
 ghost use Rattle.qtt_term.specs.View.{term};
-ghost use Rattle.qtt_term.specs.Globals.{env};
 ghost use Rattle.qtt_term.specs.Contexts.{part};
 ghost use Rattle.qtt_term.specs.Judgement.{under};
 ghost use Rattle.qtt_term.specs.Infer.{at, usable, use_at, agree, sort_of, function_of, family_of};
 ghost use Rattle.qtt_term.specs.Term.{same_id};
 ghost use Rattle.qtt_term.specs.View.{terms, side_by_side};
-ghost use Rattle.qtt_core_check.specs.Seen.{ctx, Gives, function};
+ghost use Rattle.qtt_core_check.specs.Seen.{ctx, function};
+ghost use Rattle.qtt_core_check.specs.Calls.{Answers};
 ghost use Rattle.qtt_core_check.specs.declared.refusal.CoreRefusal.TheVariants.{Memory};
 
 use crate::refusal::CoreRefusal;
 use crate::scope::Scope;
-use qtt_base::{GlobalId, MemoryError};
+use qtt_base::GlobalId;
 use qtt_term::{Answer, Converter, Globals, Head, Question, Rule, Sigma, Term};
 use qtt_usage::mult::Mult;
 use qtt_usage::usage::{Usage, UsageError};
 use std::alloc::Global;
 
-/// What the judgement is given: an answerer of questions with its contractions for each, and the environment.
+/// What the judgement is given: an answerer of questions with its contractions for each, and the
+/// environment.
 #[derive(Drop)]
 pub struct Checker<'a, C> {
     pub alloc: Global,
@@ -105,7 +106,9 @@ impl<'a, C: Converter> Checker<'a, C> {
         rule: Rule,
         number: u8,
     ) -> Result<(), CoreRefusal>
-        ensures { Gives (env self.now.globals.now) self.now.budget (agree (ctx scope.now) (term found.now) (term wanted.now) (at rule number)) (λ u. u) result }
+        ensures { Answers self.now
+            (agree (ctx scope.now) (term found.now) (term wanted.now) (at rule number))
+            (λ u. u) result }
     {
         let depth = scope.depth()?;
         match self
@@ -131,7 +134,8 @@ impl<'a, C: Converter> Checker<'a, C> {
         rule: Rule,
         number: u8,
     ) -> Result<u32, CoreRefusal>
-        ensures { Gives (env self.now.globals.now) self.now.budget (sort_of (ctx scope.now) (term ty.now) (at rule number)) (λ l. l) result }
+        ensures { Answers self.now (sort_of (ctx scope.now) (term ty.now) (at rule number)) (λ l. l)
+            result }
     {
         let depth = scope.depth()?;
         match self
@@ -153,7 +157,9 @@ impl<'a, C: Converter> Checker<'a, C> {
         rule: Rule,
         number: u8,
     ) -> Result<FunctionType, CoreRefusal>
-        ensures { Gives (env self.now.globals.now) self.now.budget (function_of (ctx scope.now) (term ty.now) (at rule number)) function result }
+        ensures { Answers self.now (function_of (ctx scope.now) (term ty.now) (at rule number))
+            function
+            result }
     {
         let depth = scope.depth()?;
         match self
@@ -179,7 +185,9 @@ impl<'a, C: Converter> Checker<'a, C> {
         ty: &Term,
         premise: (Rule, u8),
     ) -> Result<Vec<Term>, CoreRefusal>
-        ensures gives { Gives (env self.now.globals.now) self.now.budget (family_of (ctx scope.now) id count (term ty.now) (at premise.0 premise.1)) (λ v. side_by_side (terms v.items)) result }
+        ensures gives { Answers self.now
+            (family_of (ctx scope.now) id count (term ty.now) (at premise.0 premise.1))
+            (λ v. side_by_side (terms v.items)) result }
         ensures len { IfOk result (λ v. length v.items ≡ count) }
     {
         let depth = scope.depth()?;

@@ -5,10 +5,11 @@ ghost use Rattle.qtt_usage.specs.Usage.{no_usage, usage_sum, usage_scale};
 ghost use Rattle.qtt_term.specs.Term.{var, Sort, Tape};
 ghost use Rattle.qtt_term.specs.Substitution.{inst};
 ghost use Rattle.qtt_term.specs.View.{term};
-ghost use Rattle.qtt_term.specs.Globals.{env};
 ghost use Rattle.qtt_term.specs.Contexts.{part};
-ghost use Rattle.qtt_term.specs.Infer.{infer, inferred, is_dead};
-ghost use Rattle.qtt_core_check.specs.Seen.{ctx, Gives, judged, fitting, lam_ends};
+ghost use Rattle.qtt_term.specs.Accepted.{is_dead};
+ghost use Rattle.qtt_term.specs.Infer.{inferred};
+ghost use Rattle.qtt_core_check.specs.Seen.{ctx, judged, fitting, lam_ends};
+ghost use Rattle.qtt_core_check.specs.Calls.{Answers, Judges, Counted};
 ghost use Rattle.qtt_core_check.specs.declared.refusal.CoreRefusal.TheVariants.{Memory};
 
 use crate::judged::Judged;
@@ -38,8 +39,8 @@ impl<'a, C: Converter> Checker<'a, C> {
         sigma: Sigma,
         index: u32,
     ) -> Result<Judged, CoreRefusal>
-        ensures gives { Gives (env self.now.globals.now) self.now.budget (infer (env self.now.globals.now) (part sigma) (ctx scope.now) (var index)) judged result }
-        ensures len { IfOk result (λ j. length j.uses ≡ length (ctx scope.now)) }
+        ensures gives { Judges self.now (part sigma) scope.now (var index) result }
+        ensures len { IfOk result (λ j. Counted scope.now j.uses) }
     {
         let depth = scope.depth()?;
         let Some((mult, ty)) = scope.entry(index) else {
@@ -61,8 +62,8 @@ impl<'a, C: Converter> Checker<'a, C> {
         sigma: Sigma,
         level: u32,
     ) -> Result<Judged, CoreRefusal>
-        ensures gives { Gives (env self.now.globals.now) self.now.budget (infer (env self.now.globals.now) (part sigma) (ctx scope.now) (Sort level)) judged result }
-        ensures len { IfOk result (λ j. length j.uses ≡ length (ctx scope.now)) }
+        ensures gives { Judges self.now (part sigma) scope.now (Sort level) result }
+        ensures len { IfOk result (λ j. Counted scope.now j.uses) }
     {
         if level == u32::MAX {
             return Err(CoreRefusal::Fails(Rule::Sort, 1));
@@ -81,8 +82,8 @@ impl<'a, C: Converter> Checker<'a, C> {
         sigma: Sigma,
         number: u32,
     ) -> Result<Judged, CoreRefusal>
-        ensures gives { Gives (env self.now.globals.now) self.now.budget (infer (env self.now.globals.now) (part sigma) (ctx scope.now) (Tape number)) judged result }
-        ensures len { IfOk result (λ j. length j.uses ≡ length (ctx scope.now)) }
+        ensures gives { Judges self.now (part sigma) scope.now (Tape number) result }
+        ensures len { IfOk result (λ j. Counted scope.now j.uses) }
     {
         let depth = scope.depth()?;
         Ok(Judged {
@@ -98,8 +99,10 @@ impl<'a, C: Converter> Checker<'a, C> {
         domain: u32,
         codomain: u32,
     ) -> Result<Judged, CoreRefusal>
-        ensures gives { MatchResult result (λ j. judged j ≡ inferred (Sort (max domain codomain)) (no_usage (length (ctx scope.now)))) (λ e. e ≡ Memory) }
-        ensures len { IfOk result (λ j. length j.uses ≡ length (ctx scope.now)) }
+        ensures gives { MatchResult result
+            (λ j. judged j ≡ inferred (Sort (max domain codomain))
+            (no_usage (length (ctx scope.now)))) (λ e. e ≡ Memory) }
+        ensures len { IfOk result (λ j. Counted scope.now j.uses) }
     {
         let depth = scope.depth()?;
         let level = if domain > codomain { domain } else { codomain };
@@ -119,7 +122,9 @@ impl<'a, C: Converter> Checker<'a, C> {
         inner: Judged,
     ) -> Result<Judged, CoreRefusal>
         requires { 0 < length inner.uses }
-        ensures gives { Gives (env self.now.globals.now) self.now.budget (lam_ends (part sigma) mult (term domain.now) (term body.now) (judged inner)) judged result }
+        ensures gives { Answers self.now
+            (lam_ends (part sigma) mult (term domain.now) (term body.now) (judged inner))
+            judged result }
         ensures len { IfOk result (λ j. length j.uses + 1 ≡ length inner.uses) }
     {
         let mut uses = inner.uses;
@@ -142,7 +147,9 @@ impl<'a, C: Converter> Checker<'a, C> {
         used: Usage,
     ) -> Result<Judged, CoreRefusal>
         requires { length left.uses ≡ length used }
-        ensures gives { MatchResult result (λ j. judged j ≡ inferred (inst (term pi.codomain) (term argument.now)) (usage_sum left.uses (usage_scale mult used))) (λ e. e ≡ Memory) }
+        ensures gives { MatchResult result
+            (λ j. judged j ≡ inferred (inst (term pi.codomain) (term argument.now))
+            (usage_sum left.uses (usage_scale mult used))) (λ e. e ≡ Memory) }
         ensures len { IfOk result (λ j. length j.uses ≡ length left.uses) }
     {
         let value = argument.copy(self.alloc)?;
@@ -156,7 +163,8 @@ impl<'a, C: Converter> Checker<'a, C> {
     }
 }
 
-/// What a binder is used for fits its multiplicity, in the run part and where the body is not dead.
+/// What a binder is used for fits its multiplicity, in the run part and where the body is not
+/// dead.
 fn fitting(sigma: Sigma, body: &Term, used: Mult, declared: Mult) -> bool
     ensures { result ≡ fitting (part sigma) (term body.now) used declared }
 {

@@ -30,7 +30,8 @@ impl<'a> Scope<'a> {
 
     /// The multiplicity of a binder, and its type under the binders before it.
     pub fn entry(&self, index: u32) -> Option<(Mult, &Term)>
-        ensures { MatchOption result (slice_get (ctx self.now) index ≡ None) (λ b. slice_get (ctx self.now) index ≡ Some (b.0, term b.1.now)) }
+        ensures { MatchOption result (slice_get (ctx self.now) index ≡ None)
+            (λ b. slice_get (ctx self.now) index ≡ Some (b.0, term b.1.now)) }
     {
         match self {
             Scope::Empty => None,

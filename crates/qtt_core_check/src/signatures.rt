@@ -1,7 +1,7 @@
 //! The signatures of primitives and actions.
 
 ghost use Rattle.std.specs.Prelude.{◌≡◌, IfOk};
-ghost use Rattle.qtt_term.specs.Signature.{prim_signature, act_signature, prim_id as id_of, mult_of, IoTy};
+ghost use Rattle.qtt_term.specs.Signature.{prim_signature, type_arguments, act_signature, prim_id as id_of, mult_of, IoTy};
 ghost use Rattle.qtt_term.specs.Term.{Fam, ε, Action};
 ghost use Rattle.qtt_term.specs.View.{term, action, io};
 ghost use Rattle.qtt_core_check.specs.Signatures.{signature};
@@ -103,6 +103,17 @@ fn bind_signature(alloc: Global, from: IoKind, to: IoKind) -> Result<Signature, 
     ]?;
     let ty = io_type(alloc, to, Term::Var(2))?;
     Ok(Signature { arguments, ty })
+}
+
+/// How many type arguments an action takes.
+pub fn type_arguments(kind: ActKind) -> usize
+    ensures { result ≡ type_arguments (action kind) }
+{
+    match kind {
+        ActKind::Pure | ActKind::Pure1 => 1,
+        ActKind::BindIoIo | ActKind::BindIoIo1 | ActKind::BindIo1Io | ActKind::BindIo1Io1 => 2,
+        ActKind::PutLine | ActKind::GetLine | ActKind::Open | ActKind::Write | ActKind::Close => 0,
+    }
 }
 
 /// The signature of an action: its type arguments and its arguments.

@@ -1,7 +1,6 @@
 //! What families and constructors ask, as binders, and the types that stand under these.
 
 ghost use Rattle.std.specs.Prelude.{◌≡◌, ◌+◌, ◌++◌, IfOk, map, length};
-ghost use Rattle.qtt_usage.specs.Mult.{𝟘, 𝟙};
 ghost use Rattle.qtt_term.specs.Substitution.{sub, lifts, above};
 ghost use Rattle.qtt_term.specs.Signature.{index_binders as index_tele, self_of, con_sig, fam_sig};
 ghost use Rattle.qtt_term.specs.Judgement.{erase_binds, scale, sub_binds, branch_type as type_of_branch};
@@ -88,7 +87,8 @@ pub(crate) fn filled_binders(
     binders: &[(Mult, Term)],
     values: &[Term],
 ) -> Result<Vec<(Mult, Term)>, TermError>
-    ensures { IfOk result (λ v. tele v.items ≡ sub_binds (filled values.now) (scale by (tele binders.now))) }
+    ensures { IfOk result
+        (λ v. tele v.items ≡ sub_binds (filled values.now) (scale by (tele binders.now))) }
 {
     let mut all = Vec::with_capacity(alloc, binders.len())?;
     for (depth, (mult, ty)) in binders.iter().enumerate() {
@@ -127,15 +127,17 @@ pub(crate) fn parameter_binders(
     Ok(binders)
 }
 
-/// Indices as binders of this multiplicity behind other binders: each type stands under the indices before it, which it does not
-/// mention.
+/// Indices as binders of this multiplicity behind other binders: each type stands under the
+/// indices before it, which it does not mention.
 fn push_indices(
     binders: Vec<(Mult, Term)>,
     alloc: Global,
     mult: Mult,
     indices: &[Term],
 ) -> Result<Vec<(Mult, Term)>, TermError>
-    ensures { IfOk result (λ v. tele v.items ≡ tele binders.items ++ scale mult (index_tele 0 (terms indices.now))) }
+    ensures { IfOk result
+        (λ v. tele v.items ≡ tele binders.items ++ scale mult
+        (index_tele 0 (terms indices.now))) }
 {
     let mut binders = binders;
     for (place, ty) in indices.iter().enumerate() {
@@ -148,7 +150,9 @@ fn push_indices(
 /// Parameters and indices, erased.
 #[tactic(auto, using(crate::proofs::Binders::binders))]
 pub(crate) fn family_binders(alloc: Global, family: &Family) -> Result<Vec<(Mult, Term)>, TermError>
-    ensures { IfOk result (λ v. tele v.items ≡ erase_binds ((family_of family.now).params ++ index_tele 0 (family_of family.now).indices)) }
+    ensures { IfOk result
+        (λ v. tele v.items ≡ erase_binds
+        ((family_of family.now).params ++ index_tele 0 (family_of family.now).indices)) }
 {
     let params = parameter_binders(alloc, family)?;
     push_indices(params, alloc, Mult::Zero, &family.indices)
@@ -172,7 +176,9 @@ pub(crate) fn motive_binders(
     family: &Family,
     params: &[Term],
 ) -> Result<Vec<(Mult, Term)>, TermError>
-    ensures { IfOk result (λ v. tele v.items ≡ sub_binds (filled params.now) (fam_sig id (family_of family.now)).motive) }
+    ensures { IfOk result
+        (λ v. tele v.items ≡ sub_binds (filled params.now)
+        (fam_sig id (family_of family.now)).motive) }
 {
     let none = Vec::new(alloc);
     let mut binders = push_indices(none, alloc, Mult::One, &family.indices)?;
@@ -188,15 +194,16 @@ pub(crate) fn result_type(
     params: usize,
     constructor: &Constructor,
 ) -> Result<Term, TermError>
-    ensures { IfOk result (λ t. term t ≡ (con_sig id params 0 (constructor_of constructor.now)).result) }
+    ensures { IfOk result (λ t. term t ≡
+        (con_sig id params 0 (constructor_of constructor.now)).result) }
 {
     let front = variables(alloc, constructor.fields.len(), params)?;
     let back = copy_all(alloc, &constructor.result)?;
     Ok(Term::Fam(id, joined(front, back)?))
 }
 
-/// What a motive is taken at for the branch of a constructor, under the family's parameters and the fields: the indices of its result
-/// and the constructor itself.
+/// What a motive is taken at for the branch of a constructor, under the family's parameters and
+/// the fields: the indices of its result and the constructor itself.
 #[tactic(auto, using(crate::proofs::Binders::binders))]
 fn targets(
     alloc: Global,
@@ -204,7 +211,9 @@ fn targets(
     params: usize,
     constructor: &Constructor,
 ) -> Result<Vec<Term>, TermError>
-    ensures { IfOk result (λ v. side_by_side (terms v.items) ≡ (con_sig con.family params con.place (constructor_of constructor.now)).targets) }
+    ensures { IfOk result
+        (λ v. side_by_side (terms v.items) ≡
+        (con_sig con.family params con.place (constructor_of constructor.now)).targets) }
 {
     let depth = constructor.fields.len();
     let params = variables(alloc, depth, params)?;
@@ -214,8 +223,8 @@ fn targets(
     Ok(targets)
 }
 
-/// The type of the branch of a constructor of so many parameters, under its fields: the motive at the indices of its result and at the
-/// constructor itself.
+/// The type of the branch of a constructor of so many parameters, under its fields: the motive
+/// at the indices of its result and at the constructor itself.
 pub(crate) fn branch_type(
     alloc: Global,
     con: ConId,
@@ -224,7 +233,10 @@ pub(crate) fn branch_type(
     params: &[Term],
     motive: &Term,
 ) -> Result<Term, TermError>
-    ensures { IfOk result (λ t. term t ≡ type_of_branch (filled params.now) (con_sig con.family count con.place (constructor_of constructor.now)) (term motive.now)) }
+    ensures { IfOk result
+        (λ t. term t ≡ type_of_branch (filled params.now)
+        (con_sig con.family count con.place (constructor_of constructor.now))
+        (term motive.now)) }
 {
     let depth = constructor.fields.len();
     let inner = under(alloc, params, depth)?;

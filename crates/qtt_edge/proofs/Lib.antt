@@ -1,4 +1,5 @@
 pub mod FlagLemmas
 pub mod LineLemmas
+pub mod Plans
 pub mod SourceLemmas
 pub mod TapeLemmas

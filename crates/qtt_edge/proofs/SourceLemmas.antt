@@ -4,7 +4,8 @@ use Rattle.std.proofs.lemmas.List.{take-append-drop, length-take, length-drop, d
 use Rattle.std.proofs.Math.Seq.{take-append_seam, take-length}
 
 -- the bytes from at on are those that were copied, and then those behind them
-pub copied_front : (all copied rest : List ℕ) (at count : ℕ) → copied ≡ take count (drop at all) → count ≤ length (drop at all) → drop at all ≡ take count (copied ++ rest) ++ drop (at + count) all
+pub copied_front : (all copied rest : List ℕ) (at count : ℕ) → copied ≡ take count (drop at all) →
+    count ≤ length (drop at all) → drop at all ≡ take count (copied ++ rest) ++ drop (at + count) all
 copied_front all copied rest at count is within =
     let len : length copied ≡ count = ap length is ∙ (length-take count (drop at all) ∙ omega arith) in
     let front : take count (copied ++ rest) ≡ copied = rw (← len) (take-append_seam copied rest) in

@@ -3,9 +3,12 @@ pub mod ByteSource
 pub mod Counts
 pub mod Examples
 pub mod FileTapes
+pub mod Laws
 pub mod LineCutter
 pub mod MapVault
 pub mod Path
+pub mod Plan
+pub mod Pull
 pub mod Sink
 pub mod Source
 pub mod TapeRack

@@ -13,7 +13,8 @@ all_told held content = option_map (λ left. held ++ left) content
 
 -- what is answered of all the bytes, and which bytes it leaves; nothing is said of an error
 abbrev pub CutsAll : List ℕ → List ℕ → Result Next LineError → Type 0
-CutsAll all rest (Ok (Line text)) = (all ≢ []) × (is_line (line_of all) ≡ true) × (text ≡ line_of all) × (rest ≡ after_line all)
+CutsAll all rest (Ok (Line text)) =
+    (all ≢ []) × (is_line (line_of all) ≡ true) × (text ≡ line_of all) × (rest ≡ after_line all)
 CutsAll all rest (Ok End) = (all ≡ []) × (rest ≡ [])
 CutsAll all rest (Ok TooLong) = (is_too_long (line_of all) ≡ true) × (rest ≡ all)
 CutsAll all rest (Ok NotUtf8) = (is_too_long (line_of all) ≡ false) × (is_utf8 (line_of all) ≡ false) × (rest ≡ all)

@@ -20,8 +20,8 @@ pub const MAX_LINE: usize = 65_536;
 /// How many bytes one turn asks a source for.
 const CHUNK: usize = 4_096;
 
-/// Cuts the bytes of a source into lines, and holds those that it pulled too early. A contract sees
-/// the bytes that it holds.
+/// Cuts the bytes of a source into lines, and holds those that it pulled too early. A contract
+/// sees the bytes that it holds.
 #[derive(Drop)]
 pub struct LineCutter {
     held: Vec<u8>,
@@ -67,15 +67,17 @@ impl LineCutter {
 
     /// Takes one line of the bytes that are held and then of those that the source has left.
     ///
-    /// Only a line is taken: with every other answer these bytes stay, but for an error, after which
-    /// nothing is known of them. Each turn but the last takes at least one byte of the source, so there are
-    /// at most 65,537.
+    /// Only a line is taken: with every other answer these bytes stay, but for an error, after
+    /// which nothing is known of them. The source is pulled at most 65,537 times.
     pub fn next_line<S: Source>(&mut self, source: &mut S) -> Result<Next, LineError>
-        ensures cuts { Cuts (all_told self.old (S.content source.old)) (all_told self.new (S.content source.new)) result }
+        ensures cuts { Cuts (all_told self.old (S.content source.old))
+            (all_told self.new (S.content source.new)) result }
         ensures line { GivesLine result }
         ensures end { result ≡ Ok Next.End → self.old ≡ [] }
+        ensures pulled { S.pulls source.new ≤ S.pulls source.old + 65537 }
         ensures ended { Counts (S.ends source.old) (S.ends source.new) (result ≡ Ok Next.End) }
-        ensures failed { Counts (S.faults source.old) (S.faults source.new) (IsErrOf result LineError.Fault) }
+        ensures failed { Counts (S.faults source.old) (S.faults source.new)
+            (IsErrOf result LineError.Fault) }
     {
         next_line(self.alloc, &mut self.held, source)
     }
@@ -90,8 +92,10 @@ fn next_line<S: Source>(
         Cuts before (all_told held.new.items (S.content source.new)) result }
     ensures line { GivesLine result }
     ensures end { result ≡ Ok Next.End → held.old.items ≡ [] }
+    ensures pulled { S.pulls source.new ≤ S.pulls source.old + 65537 }
     ensures ended { Counts (S.ends source.old) (S.ends source.new) (result ≡ Ok Next.End) }
-    ensures failed { Counts (S.faults source.old) (S.faults source.new) (IsErrOf result LineError.Fault) }
+    ensures failed { Counts (S.faults source.old) (S.faults source.new)
+        (IsErrOf result LineError.Fault) }
 {
     let mut seen = 0;
     'turns: loop {
@@ -165,8 +169,10 @@ fn fill<S: Source>(held: &mut Vec<u8>, source: &mut S) -> Result<usize, LineErro
     ensures count { IfOk result (λ count. length held.new.items ≡ length held.old.items + count) }
     ensures end { result ≡ Ok 0 → IsAtEnd (S.content source.new) }
     ensures told { OnErr result (is_some (S.content source.new) ≡ is_some (S.content source.old)) }
+    ensures pulled { S.pulls source.new ≤ S.pulls source.old + 1 }
     ensures ended { Counts (S.ends source.old) (S.ends source.new) (result ≡ Ok 0) }
-    ensures failed { Counts (S.faults source.old) (S.faults source.new) (IsErrOf result LineError.Fault) }
+    ensures failed { Counts (S.faults source.old) (S.faults source.new)
+        (IsErrOf result LineError.Fault) }
 {
     let mut chunk = [0u8; CHUNK];
     let Ok(count) = source.pull(&mut chunk) else {
@@ -177,6 +183,3 @@ fn fill<S: Source>(held: &mut Vec<u8>, source: &mut S) -> Result<usize, LineErro
     }
     Ok(count)
 }
-
-#[cfg(test)]
-mod tests;

@@ -1,8 +1,8 @@
 //! Which calls of an object in memory fail.
 
-ghost use Rattle.std.specs.Prelude.{◌≡◌, ◌==◌, ℕ, Option, Some, None, find, option_map, IsSome, if◌then◌else◌};
-ghost use Rattle.std.specs.List.{list_any};
+ghost use Rattle.std.specs.Prelude.{◌≡◌, ◌+◌, ◌≤◌, ℕ, Option, Some, None, IsSome, if◌then◌else◌};
 ghost use Rattle.qtt_edge.specs.Counts.{Counts};
+ghost use Rattle.qtt_edge.specs.Plan.{taken_next};
 
 use crate::counts::risen;
 
@@ -10,11 +10,20 @@ use crate::counts::risen;
 pub trait FailurePlan {
     ghost faults: { Self → ℕ };
 
+    /// How many calls were made, where it counts them.
+    ghost made: { Self → ℕ };
+
     /// For a next call that fails, the number of bytes that it still takes.
     ghost upcoming: { Self → Option ℕ };
 
+    /// What the plan is behind the next call: who knows a plan knows which of all later calls
+    /// fail.
+    ghost advanced: { Self → Self };
+
     fn next(&mut self) -> Option<usize>
         ensures planned { result ≡ upcoming self.old }
+        ensures advances { self.new ≡ advanced self.old }
+        ensures counted { made self.new ≤ made self.old + 1 }
         ensures failed { Counts (faults self.old) (faults self.new) (IsSome result) };
 }
 
@@ -25,14 +34,20 @@ pub struct NeverFails;
 impl FailurePlan for NeverFails {
     ghost faults = { λ _. 0 };
 
+    ghost made = { λ _. 0 };
+
     ghost upcoming = { λ _. None };
+
+    ghost advanced = { λ p. p };
 
     fn next(&mut self) -> Option<usize> {
         None
     }
 }
 
-/// The calls of these numbers fail, counted from 0, and take nothing.
+/// The calls of these numbers fail, counted from 0, and take nothing. `made` is the number of
+/// the next call; it ends at the greatest number, as each count does, and all calls from there
+/// on have that one.
 #[derive(Debug, Drop)]
 pub struct FailingCalls {
     pub calls: Vec<u64>,
@@ -53,13 +68,19 @@ impl FailingCalls {
 }
 
 impl FailurePlan for FailingCalls {
+    ghost use Rattle.qtt_edge.specs.Plan.{is_failing, behind_call};
+
     ghost faults = { λ p. p.faults };
 
-    ghost upcoming = { λ p. if list_any (λ call. call == p.made) p.calls.items then Some 0 else None };
+    ghost made = { λ p. p.made };
+
+    ghost upcoming = { λ p. if is_failing p then Some 0 else None };
+
+    ghost advanced = { behind_call };
 
     fn next(&mut self) -> Option<usize> {
         let call = self.made;
-        self.made = call.saturating_add(1);
+        self.made = risen(call);
         if !self.calls.contains(&call) {
             return None;
         }
@@ -75,7 +96,7 @@ pub struct FailingPut {
     pub taken: usize,
 }
 
-/// The puts of this list fail.
+/// The puts of this list fail. `made` is the number of the next put, as in `FailingCalls`.
 #[derive(Debug, Drop)]
 pub struct FailingPuts {
     pub puts: Vec<FailingPut>,
@@ -93,18 +114,36 @@ impl FailingPuts {
             faults: 0,
         }
     }
+
+    /// How many bytes the next put still takes, where it fails.
+    fn taken(&self) -> Option<usize>
+        ensures { result ≡ taken_next self.now }
+    {
+        let call = self.made;
+        self.puts
+            .iter()
+            .find(|put| put.call == call)
+            .map(|put| put.taken)
+    }
 }
 
 impl FailurePlan for FailingPuts {
+    ghost use Rattle.qtt_edge.specs.Plan.{taken_next, behind_put};
+
     ghost faults = { λ p. p.faults };
 
-    ghost upcoming = { λ p. option_map (λ put. put.taken) (find (λ put. put.call == p.made) p.puts.items) };
+    ghost made = { λ p. p.made };
+
+    ghost upcoming = { taken_next };
+
+    ghost advanced = { behind_put };
 
     fn next(&mut self) -> Option<usize> {
-        let call = self.made;
-        self.made = call.saturating_add(1);
-        let put = self.puts.iter().find(|put| put.call == call)?;
-        self.faults = risen(self.faults);
-        Some(put.taken)
+        let taken = self.taken();
+        self.made = risen(self.made);
+        if taken.is_some() {
+            self.faults = risen(self.faults);
+        }
+        taken
     }
 }

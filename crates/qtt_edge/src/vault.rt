@@ -30,6 +30,8 @@ pub trait Vault {
         ensures same { texts self.new ≡ texts self.old }
         ensures short { IfOk result (λ text. vec_len text ≤ max) }
         ensures reads { Reads (texts self.old) name.now max result }
-        ensures failed { Counts (faults self.old) (faults self.new) (IsErrOf result VaultError.Failed) }
-        ensures absent { Counts (misses self.old) (misses self.new) (IsErrOf result VaultError.Absent) };
+        ensures failed { Counts (faults self.old) (faults self.new)
+            (IsErrOf result VaultError.Failed) }
+        ensures absent { Counts (misses self.old) (misses self.new)
+            (IsErrOf result VaultError.Absent) };
 }

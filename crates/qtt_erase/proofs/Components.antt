@@ -28,7 +28,8 @@ none_dropped (suc k) = refl
 
 module _ (E : Env) (Γ : Slots) where
   -- arguments, of which some go
-  pub arguments_left : (ms : List Mult) (ts : List Term) → erases E Γ (arguments ms) (term_view.side_by_side ts) ≡ side_by_side (erased_at E Γ ms ts)
+  pub arguments_left : (ms : List Mult) (ts : List Term) →
+      erases E Γ (arguments ms) (term_view.side_by_side ts) ≡ side_by_side (erased_at E Γ ms ts)
   arguments_left [] [] = refl
   arguments_left [] (t ∷ ts) = refl
   arguments_left (m ∷ ms) [] = refl
@@ -44,7 +45,8 @@ module _ (E : Env) (Γ : Slots) where
 
   -- of two lists, one behind the other
   pub both_left : (ms : List Mult) (ts us : List Term) →
-      erases E Γ (arguments ms) (term_view.side_by_side ts +++ term_view.side_by_side us) ≡ side_by_side (erased_at E Γ ms ts ++ erased_at E Γ (drop (length ts) ms) us)
+      erases E Γ (arguments ms) (term_view.side_by_side ts +++ term_view.side_by_side us) ≡ side_by_side
+      (erased_at E Γ ms ts ++ erased_at E Γ (drop (length ts) ms) us)
   both_left [] [] us = arguments_left [] us
   both_left (m ∷ ms) [] us = arguments_left (m ∷ ms) us
   both_left [] (t ∷ ts) us = refl
@@ -57,8 +59,10 @@ module _ (E : Env) (Γ : Slots) where
       erases E Γ (branches q cs (map (λ b. b.0) bs)) (term_view.side_by_side (map (λ b. b.1) bs) +++ (s ▸ ε))
       ≡ side_by_side (map (λ b. b.1) (erased_branches E Γ q cs bs)) ◂◂ erase E Γ s ◂ ∅
   branches_left q cs [] s = refl
-  branches_left q [] (b ∷ bs) s = ap (λ ls. erase E (extend Γ (field_slots q [] b.0)) b.1 ◂ ls) (branches_left q [] bs s)
-  branches_left q (c ∷ cs) (b ∷ bs) s = ap (λ ls. erase E (extend Γ (field_slots q (mults c.fields) b.0)) b.1 ◂ ls) (branches_left q cs bs s)
+  branches_left q [] (b ∷ bs) s =
+      ap (λ ls. erase E (extend Γ (field_slots q [] b.0)) b.1 ◂ ls) (branches_left q [] bs s)
+  branches_left q (c ∷ cs) (b ∷ bs) s =
+      ap (λ ls. erase E (extend Γ (field_slots q (mults c.fields) b.0)) b.1 ◂ ls) (branches_left q cs bs s)
 
   pub binders_left : (q : Mult) (cs : List Constructor) (bs : List (ℕ × Term)) →
       kept_binders q cs (map (λ b. b.0) bs) ≡ map (λ b. b.0) (erased_branches E Γ q cs bs)
@@ -76,25 +80,33 @@ module _ (E : Env) (Γ : Slots) where
       erase E Γ (node (Form.con f c (length ps)) (term_view.side_by_side ps +++ term_view.side_by_side ts))
       ≡ Con c (side_by_side (erased_at E Γ (field_mults (family_at E f).constructors c) ts))
   con_left f c ps ts =
-      ap (Tree.node (Operator.con c)) (skipped E Γ ps _ (term_view.side_by_side ts) ∙ arguments_left E Γ (field_mults (family_at E f).constructors c) ts)
+      ap (Tree.node (Operator.con c))
+      (skipped E Γ ps _ (term_view.side_by_side ts) ∙ arguments_left E Γ
+      (field_mults (family_at E f).constructors c) ts)
 
   pub prim_left : (p : Primitive) (ts : List Term) →
-      erase E Γ (node (Form.named (Named.prim p)) (term_view.side_by_side ts)) ≡ Call p (side_by_side (erased_at E Γ (mults (prim_signature p).arguments) ts))
+      erase E Γ (node (Form.named (Named.prim p)) (term_view.side_by_side ts)) ≡ Call p
+      (side_by_side (erased_at E Γ (mults (prim_signature p).arguments) ts))
   prim_left p ts = ap (Tree.node (Operator.prim p)) (arguments_left E Γ (mults (prim_signature p).arguments) ts)
 
-  pub act_left : (a : Action) (ts us : List Term) →
-      erase E Γ (node (Form.named (Named.act a)) (term_view.side_by_side ts +++ term_view.side_by_side us))
-      ≡ Act a (side_by_side (erased_at E Γ (mults (act_signature a).arguments) ts ++ erased_at E Γ (drop (length ts) (mults (act_signature a).arguments)) us))
-  act_left a ts us = ap (Tree.node (Operator.act a)) (both_left E Γ (mults (act_signature a).arguments) ts us)
+  pub act_left : (a : Action) (k : ℕ) (ts us : List Term) →
+      erase E Γ (node (Form.named (Named.act a k)) (term_view.side_by_side ts +++ term_view.side_by_side us))
+      ≡ Act a (side_by_side (erased_at E Γ (mults (act_signature a).arguments) ts ++ erased_at E Γ
+      (drop (length ts) (mults (act_signature a).arguments)) us))
+  act_left a k ts us = ap (Tree.node (Operator.act a)) (both_left E Γ (mults (act_signature a).arguments) ts us)
 
   pub case_left : (q : Mult) (f : GlobalId) (ps : List Term) (m : ℕ) (P : Term) (bs : List (ℕ × Term)) (s : Term) →
-      erase E Γ (node (Form.case q f (length ps) m (map (λ b. b.0) bs)) (term_view.side_by_side ps +++ (P ▸ (term_view.side_by_side (map (λ b. b.1) bs) +++ (s ▸ ε)))))
+      erase E Γ (node (Form.case q f (length ps) m (map (λ b. b.0) bs))
+      (term_view.side_by_side ps +++ (P ▸ (term_view.side_by_side (map (λ b. b.1) bs) +++ (s ▸ ε)))))
       ≡ Tree.node (Operator.case (map (λ b. b.0) (erased_branches E Γ q (family_at E f).constructors bs)))
       (side_by_side (map (λ b. b.1) (erased_branches E Γ q (family_at E f).constructors bs)) ◂◂ erase E Γ s ◂ ∅)
   case_left q f ps m P bs s =
-      ap (λ ns. Tree.node (Operator.case ns) (erases E Γ (fates E (Form.case q f (length ps) m (map (λ b. b.0) bs))) components)) (binders_left E Γ q cs bs)
+      ap (λ ns. Tree.node (Operator.case ns)
+      (erases E Γ (fates E (Form.case q f (length ps) m (map (λ b. b.0) bs))) components))
+      (binders_left E Γ q cs bs)
       ∙ ap (Tree.node (Operator.case (map (λ b. b.0) (erased_branches E Γ q cs bs))))
-      (skipped E Γ ps (None ∷ branches q cs (map (λ b. b.0) bs)) (P ▸ (term_view.side_by_side (map (λ b. b.1) bs) +++ (s ▸ ε))) ∙ branches_left E Γ q cs bs s)
+      (skipped E Γ ps (None ∷ branches q cs (map (λ b. b.0) bs))
+      (P ▸ (term_view.side_by_side (map (λ b. b.1) bs) +++ (s ▸ ε))) ∙ branches_left E Γ q cs bs s)
     where
       cs : List Constructor
       cs = (family_at E f).constructors
@@ -107,26 +119,34 @@ module _ (E : Env) (Γ : Slots) where
   at_none [] = refl
   at_none (m ∷ ms) = refl
 
-  next_branch : {X : Type 0} (f : X → ℕ × Term) (q : Mult) (cs : List Constructor) (bs : List X) (k : ℕ) (d : X) → k < length bs →
+  next_branch : {X : Type 0} (f : X → ℕ × Term) (q : Mult) (cs : List Constructor) (bs : List X) (k : ℕ) (d : X) →
+      k < length bs →
       erased_branches E Γ q (drop k cs) (map f (drop k bs))
-      ≡ erased_branch E Γ q (field_mults cs k) (f (get_or bs k d)) ∷ erased_branches E Γ q (drop (suc k) cs) (map f (drop (suc k) bs))
+      ≡ erased_branch E Γ q (field_mults cs k) (f (get_or bs k d)) ∷ erased_branches E Γ q (drop (suc k) cs)
+      (map f (drop (suc k) bs))
   next_branch f q cs [] k d h = absurd (omega arith)
   next_branch f q [] (b ∷ bs) zero d h = refl
   next_branch f q (c ∷ cs) (b ∷ bs) zero d h = refl
   next_branch f q [] (b ∷ bs) (suc k) d h =
-      subst (λ cs. erased_branches E Γ q cs (map f (drop k bs)) ≡ erased_branch E Γ q [] (f (get_or bs k d)) ∷ erased_branches E Γ q [] (map f (drop (suc k) bs)))
+      subst (λ cs. erased_branches E Γ q cs (map f (drop k bs)) ≡ erased_branch E Γ q [] (f (get_or bs k d)) ∷
+      erased_branches E Γ q [] (map f (drop (suc k) bs)))
       (none_dropped k) (next_branch f q [] bs k d (omega arith))
   next_branch f q (c ∷ cs) (b ∷ bs) (suc k) d h = next_branch f q cs bs k d (omega arith)
 
-  pub one_more_branch : {X : Type 0} (f : X → ℕ × Term) (q : Mult) (cs : List Constructor) (bs : List X) (k : ℕ) (d : X) → k < length bs →
+  pub one_more_branch : {X : Type 0} (f : X → ℕ × Term) (q : Mult) (cs : List Constructor) (bs : List X) (k : ℕ)
+      (d : X) → k < length bs →
       erased_branches E Γ q (drop k cs) (map f (drop k bs))
-      ≡ erased_branch E Γ q (field_mults cs k) (f (get_or bs k d)) ∷ erased_branches E Γ q (drop (k + 1) cs) (map f (drop (k + 1) bs))
+      ≡ erased_branch E Γ q (field_mults cs k) (f (get_or bs k d)) ∷ erased_branches E Γ q (drop (k + 1) cs)
+      (map f (drop (k + 1) bs))
   one_more_branch f q cs bs k d h =
       let e : suc k ≡ k + 1 = omega arith in
-      next_branch f q cs bs k d h ∙ ap (λ n. erased_branch E Γ q (field_mults cs k) (f (get_or bs k d)) ∷ erased_branches E Γ q (drop n cs) (map f (drop n bs))) e
+      next_branch f q cs bs k d h ∙
+      ap (λ n. erased_branch E Γ q (field_mults cs k) (f (get_or bs k d)) ∷ erased_branches E Γ q (drop n cs)
+      (map f (drop n bs))) e
 
 -- ---- a body under fields
-pub body_none : (Γ : Slots) (q : Mult) (n m : ℕ) → n ≡ suc m → extend Γ (field_slots q [] n) ≡ extend (Slot.gone ∷ Γ) (field_slots q [] m)
+pub body_none : (Γ : Slots) (q : Mult) (n m : ℕ) → n ≡ suc m →
+    extend Γ (field_slots q [] n) ≡ extend (Slot.gone ∷ Γ) (field_slots q [] m)
 body_none Γ q n m e = ap (λ k. extend Γ (field_slots q [] k)) e
 
 pub body_more : (Γ : Slots) (q p : Mult) (ms : List Mult) (n m : ℕ) → n ≡ suc m →

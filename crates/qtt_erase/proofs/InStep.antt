@@ -59,27 +59,31 @@ arguments-evaluated (𝟘 ∷ ms) = arguments-evaluated ms
 arguments-evaluated (𝟙 ∷ ms) = arguments-evaluated ms
 arguments-evaluated (ω ∷ ms) = arguments-evaluated ms
 
-without-kept : (k : ℕ) (ms : List Mult) (fs : List Fate) (n : ℕ) → Evaluated ms fs n → Evaluated (kept k ms) (without k fs) n
+without-kept : (k : ℕ) (ms : List Mult) (fs : List Fate) (n : ℕ) → Evaluated ms fs n →
+    Evaluated (kept k ms) (without k fs) n
 without-kept zero ms fs n h = h
 without-kept (suc k) ms fs n h = without-kept k ms fs n h
 
-branches-wait : (q : Mult) (cs : List Constructor) (ns : List ℕ) → Evaluated (kept (length ns) (𝟙 ∷ [])) (branches q cs ns) (length (kept_binders q cs ns))
+branches-wait : (q : Mult) (cs : List Constructor) (ns : List ℕ) →
+    Evaluated (kept (length ns) (𝟙 ∷ [])) (branches q cs ns) (length (kept_binders q cs ns))
 branches-wait q cs [] = tt
 branches-wait q [] (n ∷ ns) = branches-wait q [] ns
 branches-wait q (c ∷ cs) (n ∷ ns) = branches-wait q cs ns
 
-form-evaluated : (E : Env) (F : Form) → Evaluated (demanded E F) (fates E F) (waiting_of abstractions.waiting (operator E F))
+form-evaluated : (E : Env) (F : Form) →
+    Evaluated (demanded E F) (fates E F) (waiting_of abstractions.waiting (operator E F))
 form-evaluated E (Form.lam 𝟘) = tt
 form-evaluated E (Form.lam 𝟙) = tt
 form-evaluated E (Form.lam ω) = tt
 form-evaluated E (Form.app 𝟘) = tt
 form-evaluated E (Form.app 𝟙) = tt
 form-evaluated E (Form.app ω) = tt
-form-evaluated E (Form.con f c k) = without-kept k _ _ _ (arguments-evaluated (field_mults (family_at E f).constructors c))
+form-evaluated E (Form.con f c k) =
+    without-kept k _ _ _ (arguments-evaluated (field_mults (family_at E f).constructors c))
 form-evaluated E (Form.case q f k m ns) = without-kept k _ _ _ (branches-wait q (family_at E f).constructors ns)
 form-evaluated E (Form.delete q) = tt
 form-evaluated E (Form.named (Named.prim p)) = arguments-evaluated (mults (signature E (Named.prim p)).arguments)
-form-evaluated E (Form.named (Named.act a)) = arguments-evaluated (mults (signature E (Named.act a)).arguments)
+form-evaluated E (Form.named (Named.act a k)) = arguments-evaluated (mults (signature E (Named.act a k)).arguments)
 form-evaluated E (Form.named (Named.def d)) = tt
 form-evaluated E (Form.named (Named.lit (literal.Int z))) = tt
 form-evaluated E (Form.named (Named.lit (literal.Text s))) = tt
@@ -122,30 +126,39 @@ module _ (E : Env) where
   AllAgree fs full.Outcomes.sticks o = o ≢ Outcome.value
 
   -- ---- a form whose evaluated components are values
-  contracts-agree : (o : Option Term) (l : Option Lean) → ((r : Term) → o ≡ Some r → (l ≡ Some (erase E [] r)) × NoErasedUse E [] r) →
+  contracts-agree : (o : Option Term) (l : Option Lean) →
+      ((r : Term) → o ≡ Some r → (l ≡ Some (erase E [] r)) × NoErasedUse E [] r) →
       Agrees (full.contracts_to o) (step.contracts_to l)
   contracts-agree None l h = contracts-no_value l
   contracts-agree (Some r) l h = let p = h r refl in (ap step.contracts_to p.0, p.1)
 
   -- ---- beta
-  thunk-called : (g a : Term) (m : whole.Function) (r : Term) → whole.as_lam g ≡ Some m → whole.call 𝟘 a m ≡ Some r → NoErasedUse E [] g →
+  thunk-called : (g a : Term) (m : whole.Function) (r : Term) → whole.as_lam g ≡ Some m →
+      whole.call 𝟘 a m ≡ Some r → NoErasedUse E [] g →
       (step.forcing abstractions (erase E [] g ◂ ∅) ≡ Some (erase E [] r)) × NoErasedUse E [] r
   thunk-called g a (whole.Function.function 𝟘 b) r eg e u =
       let l = as_lam-is g 𝟘 b eg in
       let w = beta-gone E b a (let v : NoErasedUse E [] (Lam 𝟘 l.0 b) = subst (NoErasedUse E []) l.1 u in v.1.0) in
-      let h : inst b a ≡ r = some-injective e in
-      (ap (λ x. step.forcing abstractions (erase E [] x ◂ ∅)) l.1 ∙ ap Some (w.0 ∙ ap (erase E []) h), subst (NoErasedUse E []) h w.1)
+      let h : inst b a ≡ r = some-injective e in (
+        ap (λ x. step.forcing abstractions (erase E [] x ◂ ∅)) l.1 ∙ ap Some (w.0 ∙ ap (erase E []) h),
+        subst (NoErasedUse E []) h w.1,
+      )
   thunk-called g a (whole.Function.function 𝟙 b) r eg e u = absurd (none≢some e)
   thunk-called g a (whole.Function.function ω b) r eg e u = absurd (none≢some e)
 
-  applied : (g a b r : Term) → erase E [] g ≡ lean.Fun (erase E (Slot.filled ∷ []) b) → NoErasedUse E (Slot.filled ∷ []) b → NoErasedUse E [] a → inst b a ≡ r →
+  applied : (g a b r : Term) → erase E [] g ≡ lean.Fun (erase E (Slot.filled ∷ []) b) →
+      NoErasedUse E (Slot.filled ∷ []) b → NoErasedUse E [] a → inst b a ≡ r →
       (step.beta abstractions (erase E [] g ◂ erase E [] a ◂ ∅) ≡ Some (erase E [] r)) × NoErasedUse E [] r
   applied g a b r eg u v h =
-      let w = beta-filled E b a u v in
-      (ap (λ x. step.beta abstractions (x ◂ erase E [] a ◂ ∅)) eg ∙ ap Some (w.0 ∙ ap (erase E []) h), subst (NoErasedUse E []) h w.1)
+      let w = beta-filled E b a u v in (
+        ap (λ x. step.beta abstractions (x ◂ erase E [] a ◂ ∅)) eg ∙ ap Some (w.0 ∙ ap (erase E []) h),
+        subst (NoErasedUse E []) h w.1,
+      )
 
-  fun-called : (q : Mult) (g a : Term) (m : whole.Function) (r : Term) → Usable Part.run q → whole.as_lam g ≡ Some m → whole.call q a m ≡ Some r →
-      NoErasedUse E [] g → NoErasedUse E [] a → (step.beta abstractions (erase E [] g ◂ erase E [] a ◂ ∅) ≡ Some (erase E [] r)) × NoErasedUse E [] r
+  fun-called : (q : Mult) (g a : Term) (m : whole.Function) (r : Term) → Usable Part.run q →
+      whole.as_lam g ≡ Some m → whole.call q a m ≡ Some r →
+      NoErasedUse E [] g → NoErasedUse E [] a →
+      (step.beta abstractions (erase E [] g ◂ erase E [] a ◂ ∅) ≡ Some (erase E [] r)) × NoErasedUse E [] r
   fun-called 𝟘 g a m r used eg e u v = absurd used
   fun-called 𝟙 g a (whole.Function.function 𝟙 b) r used eg e u v =
       let l = as_lam-is g 𝟙 b eg in
@@ -167,7 +180,8 @@ module _ (E : Env) where
       thunk-called g a m.0 r m.1 m.2 u.0
   forced-agrees _ r e u = absurd (none≢some e)
 
-  beta-agrees : (q : Mult) → Usable Part.run q → (ts : Terms) (r : Term) → whole.beta q ts ≡ Some r → NoErasedUses E [] (Some [] ∷ Some [] ∷ []) ts →
+  beta-agrees : (q : Mult) → Usable Part.run q → (ts : Terms) (r : Term) → whole.beta q ts ≡ Some r →
+      NoErasedUses E [] (Some [] ∷ Some [] ∷ []) ts →
       (step.beta abstractions (erases E [] (Some [] ∷ Some [] ∷ []) ts) ≡ Some (erase E [] r)) × NoErasedUse E [] r
   beta-agrees q used (g ▸ a ▸ ε) r e u =
       let m = chain-some (whole.as_lam g) (whole.call q a) r e in
@@ -175,16 +189,19 @@ module _ (E : Env) where
   beta-agrees q used _ r e u = absurd (none≢some e)
 
   -- ---- delta
-  body-erased : (m : Mult) (o : Option Term) (r : Term) → Usable Part.run m → o ≡ Some r → erased_body E m o ≡ Some (erase E [] r)
+  body-erased : (m : Mult) (o : Option Term) (r : Term) → Usable Part.run m → o ≡ Some r →
+      erased_body E m o ≡ Some (erase E [] r)
   body-erased 𝟘 o r used e = absurd used
   body-erased 𝟙 None r used e = absurd (none≢some e)
   body-erased 𝟙 (Some b) r used e = ap (λ x. Some (erase E [] x)) (some-injective e)
   body-erased ω None r used e = absurd (none≢some e)
   body-erased ω (Some b) r used e = ap (λ x. Some (erase E [] x)) (some-injective e)
 
-  delta-agrees : Erasable E → (d : GlobalId) → Usable Part.run (definition_at E d).mult → (ts : Terms) (r : Term) → whole.delta E d ts ≡ Some r →
+  delta-agrees : Erasable E → (d : GlobalId) → Usable Part.run (definition_at E d).mult →
+      (ts : Terms) (r : Term) → whole.delta E d ts ≡ Some r →
       (erased_bodies E d ≡ Some (erase E [] r)) × NoErasedUse E [] r
-  delta-agrees h d used ε r e = (body-erased (definition_at E d).mult (definition_at E d).body r used e, h.bodies d r used e)
+  delta-agrees h d used ε r e =
+      (body-erased (definition_at E d).mult (definition_at E d).body r used e, h.bodies d r used e)
   delta-agrees h d used (t ▸ ts) r e = absurd (none≢some e)
 
   -- ---- primitives
@@ -198,7 +215,8 @@ module _ (E : Env) where
   literal-left : (t : Term) (l : Lit) → whole.as_lit t ≡ Some l → step.as_lit (erase E [] t) ≡ Some l
   literal-left t l e = ap (λ x. step.as_lit (erase E [] x)) (as_lit-is t l e)
 
-  one-left : (ts : Terms) (a : Lit) → whole.literals ts ≡ Some (a ∷ []) → step.literals (erases E [] (Some [] ∷ []) ts) ≡ Some (a ∷ [])
+  one-left : (ts : Terms) (a : Lit) → whole.literals ts ≡ Some (a ∷ []) →
+      step.literals (erases E [] (Some [] ∷ []) ts) ≡ Some (a ∷ [])
   one-left ε a e = absurd (cc (some-injective e))
   one-left (t ▸ ts) a e =
       let p = literals-cons t ts (a ∷ []) e in
@@ -206,13 +224,15 @@ module _ (E : Env) where
       ap (λ ls. step.literals (erase E [] t ◂ ls)) (nothing-erased E [] ts)
       ∙ ap (λ o. chain o (λ x. Some (x ∷ []))) (literal-left t p.0 p.2 ∙ ap Some l)
 
-  two-left : (ts : Terms) (a b : Lit) → whole.literals ts ≡ Some (a ∷ b ∷ []) → step.literals (erases E [] (Some [] ∷ Some [] ∷ []) ts) ≡ Some (a ∷ b ∷ [])
+  two-left : (ts : Terms) (a b : Lit) → whole.literals ts ≡ Some (a ∷ b ∷ []) →
+      step.literals (erases E [] (Some [] ∷ Some [] ∷ []) ts) ≡ Some (a ∷ b ∷ [])
   two-left ε a b e = absurd (cc (some-injective e))
   two-left (t ▸ ts) a b e =
       let p = literals-cons t ts (a ∷ b ∷ []) e in
       let l : p.0 ≡ a = cc (p.4) in
       let k : p.1 ≡ b ∷ [] = cc (p.4) in
-      ap (λ o. chain o (λ x. chain (step.literals (erases E [] (Some [] ∷ []) ts)) (λ xs. Some (x ∷ xs)))) (literal-left t p.0 p.2 ∙ ap Some l)
+      ap (λ o. chain o (λ x. chain (step.literals (erases E [] (Some [] ∷ []) ts)) (λ xs. Some (x ∷ xs))))
+      (literal-left t p.0 p.2 ∙ ap Some l)
       ∙ ap (λ o. chain o (λ xs. Some (a ∷ xs))) (one-left ts b (p.3 ∙ ap Some k))
 
   answers-agree : (a : PrimAnswer) → Agrees (full.answers a) (step.answers a)
@@ -264,18 +284,22 @@ module _ (E : Env) where
   literals-left prim.ShowInt ts ls e = number-left _ ts ls e
 
   primitive-agrees : (p : Primitive) (ts : Terms) (o : Option (List Lit)) → whole.literals ts ≡ o →
-      Agrees (full.primitive p o) (step.primitive p (step.literals (erases E [] (fates E (Form.named (Named.prim p))) ts)))
+      Agrees (full.primitive p o)
+      (step.primitive p (step.literals (erases E [] (fates E (Form.named (Named.prim p))) ts)))
   primitive-agrees p ts None e = primitive-no_value p _
   primitive-agrees p ts (Some ls) e =
       elim (literals-left p ts ls e) [
-        | inl ill ↦ subst (λ a. Agrees (full.answers a) (step.primitive p (step.literals (erases E [] (fates E (Form.named (Named.prim p))) ts))))
+        | inl ill ↦ subst (λ a. Agrees (full.answers a)
+            (step.primitive p (step.literals (erases E [] (fates E (Form.named (Named.prim p))) ts))))
             (sym ill) (primitive-no_value p _)
-        | inr left ↦ subst (λ o. Agrees (full.answers (apply p ls)) (step.primitive p o)) (sym left) (answers-agree (apply p ls))
+        | inr left ↦ subst (λ o. Agrees (full.answers (apply p ls)) (step.primitive p o)) (sym left)
+            (answers-agree (apply p ls))
       ]
 
   -- ---- each form
   itself-agrees : Erasable E → (F : Form) (ts : Terms) → NamesNoZero E F → NoErasedUses E [] (fates E F) ts →
-      Agrees (full.itself E F ts) (step.itself abstractions (erased_bodies E) (operator E F) (erases E [] (fates E F) ts))
+      Agrees (full.itself E F ts)
+      (step.itself abstractions (erased_bodies E) (operator E F) (erases E [] (fates E F) ts))
   unfolding contract
   itself-agrees h (Form.app 𝟘) ts n u = contracts-agree _ _ (λ r e. forced-agrees ts r e u)
   itself-agrees h (Form.app 𝟙) ts n u = contracts-agree _ _ (λ r e. beta-agrees 𝟙 tt ts r e u)
@@ -286,14 +310,17 @@ module _ (E : Env) where
   itself-agrees h (Form.case q f k m ns) ts n u =
       contracts-agree (whole.iota f ns (skip k ts)) _ (λ r e.
       let fs : List Fate = None ∷ branches q (family_at E f).constructors ns in
-      let w = iota-erased E q f ns (skip k ts) r e (cleans-without E k fs ts u) in
-      (ap (step.iota abstractions (kept_binders q (family_at E f).constructors ns)) (erases-without E k fs ts) ∙ w.0, w.1))
+      let w = iota-erased E q f ns (skip k ts) r e (cleans-without E k fs ts u) in (
+        ap (step.iota abstractions (kept_binders q (family_at E f).constructors ns)) (erases-without E k fs ts) ∙
+            w.0,
+        w.1,
+      ))
   itself-agrees h (Form.delete q) ts n u = contracts-agree _ _ (λ r e. deletion-erased E h ts r e u)
   itself-agrees h (Form.named (Named.def d)) ts n u = contracts-agree _ _ (λ r e. delta-agrees h d n ts r e)
   itself-agrees h (Form.named (Named.prim p)) ts n u = primitive-agrees p ts (whole.literals ts) refl
   itself-agrees h (Form.named (Named.lit l)) ts n u = refl
   itself-agrees h (Form.named (Named.prim_ty p)) ts n u = refl
-  itself-agrees h (Form.named (Named.act a)) ts n u = refl
+  itself-agrees h (Form.named (Named.act a k)) ts n u = refl
   itself-agrees h (Form.con f c k) ts n u = refl
   itself-agrees h (Form.sort l) ts n u = refl
   itself-agrees h (Form.pi q) ts n u = refl
@@ -302,26 +329,33 @@ module _ (E : Env) where
   itself-agrees h (Form.tape m) ts n u = refl
 
   finish-agrees : (F : Form) (ts : Terms) (o : full.Outcomes) (l : Outcome Leans) → NamesNoZero E F →
-      Agrees (full.itself E F ts) (step.itself abstractions (erased_bodies E) (operator E F) (erases E [] (fates E F) ts)) → AllAgree (fates E F) o l →
-      Agrees (full.finish E F ts o) (step.finish abstractions (erased_bodies E) (operator E F) (erases E [] (fates E F) ts) l)
+      Agrees (full.itself E F ts)
+      (step.itself abstractions (erased_bodies E) (operator E F) (erases E [] (fates E F) ts)) →
+      AllAgree (fates E F) o l →
+      Agrees (full.finish E F ts o)
+      (step.finish abstractions (erased_bodies E) (operator E F) (erases E [] (fates E F) ts) l)
   finish-agrees F ts full.Outcomes.values l n h a =
-      subst (λ l. Agrees (full.itself E F ts) (step.finish abstractions (erased_bodies E) (operator E F) (erases E [] (fates E F) ts) l)) (sym a) h
+      subst (λ l. Agrees (full.itself E F ts)
+      (step.finish abstractions (erased_bodies E) (operator E F) (erases E [] (fates E F) ts) l)) (sym a) h
   finish-agrees F ts (full.Outcomes.steps ss) l n h a =
       (ap (step.finish abstractions (erased_bodies E) (operator E F) (erases E [] (fates E F) ts)) a.0, (n, a.1))
-  finish-agrees F ts (full.Outcomes.traps k) l n h a = ap (step.finish abstractions (erased_bodies E) (operator E F) (erases E [] (fates E F) ts)) a
+  finish-agrees F ts (full.Outcomes.traps k) l n h a =
+      ap (step.finish abstractions (erased_bodies E) (operator E F) (erases E [] (fates E F) ts)) a
   finish-agrees F ts full.Outcomes.sticks Outcome.value n h a = absurd (a refl)
   finish-agrees F ts full.Outcomes.sticks (Outcome.step s) n h a = λ e. cc e
   finish-agrees F ts full.Outcomes.sticks (Outcome.trap k) n h a = λ e. cc e
   finish-agrees F ts full.Outcomes.sticks Outcome.stuck n h a = λ e. cc e
 
   -- ---- components
-  behind-gone : (fs : List Fate) (t : Term) (r : full.Outcomes) (l : Outcome Leans) → AllAgree fs r l → AllAgree (None ∷ fs) (full.behind t r) l
+  behind-gone : (fs : List Fate) (t : Term) (r : full.Outcomes) (l : Outcome Leans) → AllAgree fs r l →
+      AllAgree (None ∷ fs) (full.behind t r) l
   behind-gone fs t full.Outcomes.values l a = a
   behind-gone fs t (full.Outcomes.steps ss) l a = a
   behind-gone fs t (full.Outcomes.traps k) l a = a
   behind-gone fs t full.Outcomes.sticks l a = a
 
-  behind-left : (ss : List Slot) (fs : List Fate) (t : Term) (r : full.Outcomes) (l : Outcome Leans) → NoErasedUse E (extend [] ss) t → AllAgree fs r l →
+  behind-left : (ss : List Slot) (fs : List Fate) (t : Term) (r : full.Outcomes) (l : Outcome Leans) →
+      NoErasedUse E (extend [] ss) t → AllAgree fs r l →
       AllAgree (Some ss ∷ fs) (full.behind t r) (step.behind (erase E (extend [] ss) t) l)
   behind-left ss fs t full.Outcomes.values l u a = ap (step.behind (erase E (extend [] ss) t)) a
   behind-left ss fs t (full.Outcomes.steps rs) l u a = (ap (step.behind (erase E (extend [] ss) t)) a.0, (u, a.1))
@@ -331,26 +365,32 @@ module _ (E : Env) where
   behind-left ss fs t full.Outcomes.sticks (Outcome.trap k) u a = λ e. cc e
   behind-left ss fs t full.Outcomes.sticks Outcome.stuck u a = λ e. cc e
 
-  before-agrees : (fs : List Fate) (o : full.Outcome) (l : Outcome Lean) (t : Term) (ts : Terms) (r : full.Outcomes) (k : Outcome Leans) →
+  before-agrees : (fs : List Fate) (o : full.Outcome) (l : Outcome Lean) (t : Term) (ts : Terms)
+      (r : full.Outcomes) (k : Outcome Leans) →
       NoErasedUse E [] t → NoErasedUses E [] fs ts → Agrees o l → AllAgree fs r k →
       AllAgree (Some [] ∷ fs) (full.before o t ts r) (step.before l (erase E [] t) (erases E [] fs ts) k)
   before-agrees fs full.Outcome.value l t ts r k u v a b =
-      subst (λ l. AllAgree (Some [] ∷ fs) (full.behind t r) (step.before l (erase E [] t) (erases E [] fs ts) k)) (sym a) (behind-left [] fs t r k u b)
-  before-agrees fs (full.Outcome.step s) l t ts r k u v a b = (ap (λ l. step.before l (erase E [] t) (erases E [] fs ts) k) a.0, (a.1, v))
-  before-agrees fs (full.Outcome.trap c) l t ts r k u v a b = ap (λ l. step.before l (erase E [] t) (erases E [] fs ts) k) a
+      subst (λ l. AllAgree (Some [] ∷ fs) (full.behind t r) (step.before l (erase E [] t) (erases E [] fs ts) k))
+      (sym a) (behind-left [] fs t r k u b)
+  before-agrees fs (full.Outcome.step s) l t ts r k u v a b =
+      (ap (λ l. step.before l (erase E [] t) (erases E [] fs ts) k) a.0, (a.1, v))
+  before-agrees fs (full.Outcome.trap c) l t ts r k u v a b =
+      ap (λ l. step.before l (erase E [] t) (erases E [] fs ts) k) a
   before-agrees fs full.Outcome.stuck Outcome.value t ts r k u v a b = absurd (a refl)
   before-agrees fs full.Outcome.stuck (Outcome.step s) t ts r k u v a b = λ e. cc e
   before-agrees fs full.Outcome.stuck (Outcome.trap c) t ts r k u v a b = λ e. cc e
   before-agrees fs full.Outcome.stuck Outcome.stuck t ts r k u v a b = λ e. cc e
 
-  all-wait : (ts : Terms) (fs : List Fate) (n : ℕ) → Evaluated [] fs n → nexts abstractions (erased_bodies E) n (erases E [] fs ts) ≡ Outcome.value
+  all-wait : (ts : Terms) (fs : List Fate) (n : ℕ) → Evaluated [] fs n →
+      nexts abstractions (erased_bodies E) n (erases E [] fs ts) ≡ Outcome.value
   all-wait ε fs n h = refl
   all-wait (t ▸ ts) [] n h = refl
   all-wait (t ▸ ts) (None ∷ fs) n h = all-wait ts fs n h
   all-wait (t ▸ ts) (Some ss ∷ fs) zero h = absurd h
   all-wait (t ▸ ts) (Some ss ∷ fs) (suc n) h = ap (step.behind (erase E (extend [] ss) t)) (all-wait ts fs n h)
 
-  none-asked : (ts : Terms) (ms : List Mult) (n : ℕ) → Evaluated ms [] n → full.full_steps E ms ts ≡ full.Outcomes.values
+  none-asked : (ts : Terms) (ms : List Mult) (n : ℕ) → Evaluated ms [] n →
+      full.full_steps E ms ts ≡ full.Outcomes.values
   none-asked ε [] n h = refl
   none-asked ε (m ∷ ms) n h = refl
   none-asked (t ▸ ts) [] n h = refl
@@ -363,9 +403,12 @@ module _ (E : Env) where
       pub term-agrees : (t : Term) → NoErasedUse E [] t → Agrees (full.full_step E t) (erased_step E t)
       term-agrees (var i) u = absurd u
       term-agrees (node F ts) u =
-          finish-agrees F ts _ _ u.0 (itself-agrees h F ts u.0 u.1) (terms-agree ts (demanded E F) (fates E F) (waiting_of abstractions.waiting (operator E F)) (form-evaluated E F) u.1)
+          finish-agrees F ts _ _ u.0 (itself-agrees h F ts u.0 u.1)
+          (terms-agree ts (demanded E F) (fates E F) (waiting_of abstractions.waiting (operator E F))
+          (form-evaluated E F) u.1)
 
-      terms-agree : (ts : Terms) (ms : List Mult) (fs : List Fate) (n : ℕ) → Evaluated ms fs n → NoErasedUses E [] fs ts →
+      terms-agree : (ts : Terms) (ms : List Mult) (fs : List Fate) (n : ℕ) → Evaluated ms fs n →
+          NoErasedUses E [] fs ts →
           AllAgree fs (full.full_steps E ms ts) (nexts abstractions (erased_bodies E) n (erases E [] fs ts))
       terms-agree ε [] fs n w u = refl
       terms-agree ε (m ∷ ms) fs n w u = refl
@@ -374,7 +417,8 @@ module _ (E : Env) where
           subst (λ o. AllAgree [] (full.behind t o) (Outcome.value)) (sym (none-asked ts ms n w)) refl
       terms-agree (t ▸ ts) (𝟘 ∷ ms) (None ∷ fs) n w u = behind-gone fs t _ _ (terms-agree ts ms fs n w u)
       terms-agree (t ▸ ts) (𝟘 ∷ ms) (Some ss ∷ fs) zero w u = absurd w
-      terms-agree (t ▸ ts) (𝟘 ∷ ms) (Some ss ∷ fs) (suc n) w u = behind-left ss fs t _ _ u.0 (terms-agree ts ms fs n w u.1)
+      terms-agree (t ▸ ts) (𝟘 ∷ ms) (Some ss ∷ fs) (suc n) w u =
+          behind-left ss fs t _ _ u.0 (terms-agree ts ms fs n w u.1)
       terms-agree (t ▸ ts) (𝟙 ∷ ms) (Some [] ∷ fs) zero w u =
           before-agrees fs _ _ t ts _ _ u.0 u.1 (term-agrees t u.0) (terms-agree ts ms fs zero w u.1)
       terms-agree (t ▸ ts) (𝟙 ∷ ms) (Some [] ∷ fs) (suc n) w u = absurd w
@@ -391,8 +435,10 @@ module _ (E : Env) where
 pub in_step : ErasedTermsRunInStep
 in_step E h = record {
   values = λ t u e. subst (λ o. Agrees E o (erased_step E t)) e (term-agrees E h t u);
-  steps = λ t s u e. let p : Agrees E (full.Outcome.step s) (erased_step E t) = subst (λ o. Agrees E o (erased_step E t)) e (term-agrees E h t u) in p.0;
+  steps = λ t s u e. let p : Agrees E (full.Outcome.step s) (erased_step E t) =
+      subst (λ o. Agrees E o (erased_step E t)) e (term-agrees E h t u) in p.0;
   traps = λ t k u e. subst (λ o. Agrees E o (erased_step E t)) e (term-agrees E h t u);
   sticks = λ t u e. subst (λ o. Agrees E o (erased_step E t)) e (term-agrees E h t u);
-  kept = λ t s u e. let p : Agrees E (full.Outcome.step s) (erased_step E t) = subst (λ o. Agrees E o (erased_step E t)) e (term-agrees E h t u) in p.1;
+  kept = λ t s u e. let p : Agrees E (full.Outcome.step s) (erased_step E t) =
+      subst (λ o. Agrees E o (erased_step E t)) e (term-agrees E h t u) in p.1;
 }

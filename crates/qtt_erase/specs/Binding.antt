@@ -1,5 +1,5 @@
--- Abstract binding trees: a variable, or an operator with its components, each under so many binders as the operator says.
--- Variables are de Bruijn indices.
+-- Abstract binding trees: a variable, or an operator with its components, each under so many binders as the
+-- operator says. Variables are de Bruijn indices.
 use Rattle.std.specs.Prelude.{ℕ, zero, suc, ◌+◌, ◌<◌, List}
 use Rattle.qtt_term.specs.Term.{first, rest}
 use Rattle.qtt_term.specs.Substitution.{lifts_ren}

@@ -29,4 +29,5 @@ abbrev mutual
 -- an environment whose equality is Prim's, and in which no body of a definition that is not 0 has an erased use
 pub record Erasable (E : Env) : Type 0 where
   pub equality : E.family eq_id ≡ Some eq_family
-  pub bodies : (d : GlobalId) (b : Term) → Usable Part.run (definition_at E d).mult → (definition_at E d).body ≡ Some b → NoErasedUse E [] b
+  pub bodies : (d : GlobalId) (b : Term) → Usable Part.run (definition_at E d).mult →
+      (definition_at E d).body ≡ Some b → NoErasedUse E [] b

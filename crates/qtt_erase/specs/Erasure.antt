@@ -1,6 +1,6 @@
--- Erasure. Arguments and fields at 0, parameters, type arguments, domains and motives go. A Lam at 0 is a Thunk and its App a Force,
--- so that what stands in a body is evaluated no earlier. Each type is Ty, and so is a variable bound at 0. A Delete is a Case with
--- one branch.
+-- Erasure. Arguments and fields at 0, parameters, type arguments, domains and motives go. A Lam at 0 is a Thunk
+-- and its App a Force, so that what stands in a body is evaluated no earlier. Each type is Ty, and so is a
+-- variable bound at 0. A Delete is a Case with one branch.
 use Rattle.std.specs.Prelude.{ℕ, zero, suc, List, [], ◌∷◌, Option, Some, None}
 use Rattle.qtt_usage.specs.declared.mult.Mult.{Mult}
 use Rattle.qtt_usage.specs.Mult.{𝟘, 𝟙, ω}
@@ -105,7 +105,7 @@ fates E (Form.con f c k) = without k (arguments (field_mults (family_at E f).con
 fates E (Form.case q f k m ns) = without k (None ∷ branches q (family_at E f).constructors ns)
 fates E (Form.delete q) = without 3 (Some [] ∷ Some [] ∷ [])
 fates E (Form.named (Named.prim p)) = arguments (mults (signature E (Named.prim p)).arguments)
-fates E (Form.named (Named.act a)) = arguments (mults (signature E (Named.act a)).arguments)
+fates E (Form.named (Named.act a k)) = arguments (mults (signature E (Named.act a k)).arguments)
 fates E _ = []
 
 -- ---- the operator that is left
@@ -135,7 +135,7 @@ operator E (Form.named (Named.def d)) = Operator.def d
 operator E (Form.named (Named.lit l)) = Operator.lit l
 operator E (Form.named (Named.prim_ty p)) = Operator.ty
 operator E (Form.named (Named.prim p)) = Operator.prim p
-operator E (Form.named (Named.act a)) = Operator.act a
+operator E (Form.named (Named.act a k)) = Operator.act a
 operator E Form.trap = Operator.trap
 operator E (Form.tape n) = Operator.tape n
 operator E (Form.sort l) = Operator.ty

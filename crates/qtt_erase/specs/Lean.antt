@@ -1,4 +1,5 @@
--- Erased terms: what carries no content at run time is gone, which is multiplicities, types, parameters, and arguments and fields at 0.
+-- Erased terms: what carries no content at run time is gone, which is multiplicities, types, parameters, and
+-- arguments and fields at 0.
 use Rattle.std.specs.Prelude.{ℕ, List, [], ◌∷◌, Option, Some, None}
 use Rattle.qtt_erase.specs.Binding.{Tree, ∅, ◌◂◌, inst}
 use Rattle.qtt_erase.specs.Operator.{Operator, binders_of, Code, Codes}

@@ -29,7 +29,8 @@ binders_of own (Operator.function a) = own a
 binders_of own (Operator.case ns) = ns
 binders_of own _ = []
 
--- how many of the first components wait: those of a function that do, and the branches of a Case. The others are evaluated
+-- how many of the first components wait: those of a function that do, and the branches of a Case. The others are
+-- evaluated
 abbrev pub waiting_of : {A : Type 0} → (A → ℕ) → Operator A → ℕ
 waiting_of own (Operator.function a) = own a
 waiting_of own (Operator.case ns) = length ns

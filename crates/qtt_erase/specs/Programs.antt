@@ -1,81 +1,28 @@
--- Small programs whose erasure tells something, as environments. Items have the numbers that they have in the text.
+-- Small programs whose erasure tells something, as environments. Items have the numbers that they have in the
+-- text.
 use Rattle.std.specs.Prelude.{pos, [], ◌∷◌}
-use Rattle.qtt_usage.specs.Mult.{𝟘, 𝟙, ω}
+use Rattle.qtt_usage.specs.Mult.{𝟘, ω}
 use Rattle.qtt_term.specs.Term.{Form, Term, var, node, ε, ◌▸◌, Sort, Pi, Lam, App, Fam, Def, IntLit}
-use Rattle.qtt_term.specs.Signature.{Family, Env, IntTy, StringTy}
-use Rattle.qtt_term.specs.Programs.{item, program, many, io_unit, put, shown, added, nat, nat_family, z, s, plus}
-
--- data Vect (a : Type) : Nat -> Type where Nil : Vect a Z; Cons : (0 k : Nat) -> (1 x : a) -> (1 xs : Vect a k) -> Vect a (S k)
-abbrev pub vect : Term → Term → Term
-vect a n = Fam (item 4) (a ▸ n ▸ ε)
-
-abbrev pub vect_family : Family
-vect_family = record {
-  params = (𝟘, Sort 0) ∷ [];
-  indices = nat ∷ [];
-  level = 0;
-  constructors = record { fields = []; results = z ▸ ε }
-      ∷ record { fields = (𝟘, nat) ∷ (𝟙, var 1) ∷ (𝟙, vect (var 2) (var 1)) ∷ []; results = s (var 2) ▸ ε } ∷ [];
-}
-
-abbrev pub nil : Term → Term
-nil a = node (Form.con (item 4) 0 1) (a ▸ ε)
-
-abbrev pub cons : Term → Term → Term → Term → Term
-cons a k x xs = node (Form.con (item 4) 1 1) (a ▸ k ▸ x ▸ xs ▸ ε)
-
-abbrev pub plus_body : Term
-plus_body = Lam ω nat (Lam ω nat (node (Form.case ω (item 0) 0 1 (0 ∷ 1 ∷ [])) (nat ▸ var 0 ▸ s (plus (var 0) (var 1)) ▸ var 1 ▸ ε)))
-
-abbrev pub append : Term → Term → Term → Term → Term → Term
-append a m n xs ys = App 𝟙 (App 𝟙 (App 𝟘 (App 𝟘 (App 𝟘 (Def (item 7)) a) m) n) xs) ys
-
--- append : (0 a : Type) -> (0 m : Nat) -> (0 n : Nat) -> (1 xs : Vect a m) -> (1 ys : Vect a n) -> Vect a (plus m n)
-abbrev pub append_type : Term
-append_type =
-    Pi 𝟘 (Sort 0) (Pi 𝟘 nat (Pi 𝟘 nat (Pi 𝟙 (vect (var 2) (var 1)) (Pi 𝟙 (vect (var 3) (var 1)) (vect (var 4) (plus (var 3) (var 2)))))))
-
--- append a _ n Nil ys = ys; append a _ n (Cons k x xs) ys = Cons (plus k n) x (append a k n xs ys).
--- The linear ys is bound again in each branch
-abbrev pub append_body : Term
-append_body =
-    Lam 𝟘 (Sort 0) (Lam 𝟘 nat (Lam 𝟘 nat (Lam 𝟙 (vect (var 2) (var 1)) (Lam 𝟙 (vect (var 3) (var 1)) (App 𝟙
-    (node (Form.case 𝟙 (item 4) 1 2 (0 ∷ 3 ∷ [])) (var 4 ▸ Pi 𝟙 (vect (var 6) (var 4)) (vect (var 7) (plus (var 2) (var 5)))
-    ▸ Lam 𝟙 (vect (var 4) (var 2)) (var 0)
-    ▸ Lam 𝟙 (vect (var 7) (var 5)) (cons (var 8) (plus (var 3) (var 6)) (var 2) (append (var 8) (var 3) (var 6) (var 1) (var 0)))
-    ▸ var 1 ▸ ε))
-    (var 0))))))
-
-abbrev pub total : Term → Term → Term
-total n xs = App ω (App 𝟘 (Def (item 8)) n) xs
-
--- total : (0 n : Nat) -> Vect Int n -> Int; total _ Nil = 0; total _ (Cons k x xs) = addInt x (total k xs)
-abbrev pub total_body : Term
-total_body =
-    Lam 𝟘 nat (Lam ω (vect IntTy (var 0))
-    (node (Form.case ω (item 4) 1 2 (0 ∷ 3 ∷ [])) (IntTy ▸ IntTy ▸ IntLit (pos 0) ▸ added (var 1) (total (var 2) (var 0)) ▸ var 0 ▸ ε)))
-
--- main = putLine (showInt (total (plus (S (S Z)) (S Z)) (append Int (S (S Z)) (S Z) (Cons (S Z) 4 (Cons Z 5 Nil)) (Cons Z 6 Nil))))
-abbrev pub vectors : Env
-vectors =
-    program ((0, nat_family) ∷ (4, vect_family) ∷ [])
-    ((3, many (Pi ω nat (Pi ω nat nat)) plus_body)
-    ∷ (7, many append_type append_body)
-    ∷ (8, many (Pi 𝟘 nat (Pi ω (vect IntTy (var 0)) IntTy)) total_body)
-    ∷ (
-      9,
-      many io_unit (put (shown (total (plus (s (s z)) (s z)) (append IntTy (s (s z)) (s z)
-          (cons IntTy (s z) (IntLit (pos 4)) (cons IntTy z (IntLit (pos 5)) (nil IntTy))) (cons IntTy z (IntLit (pos 6)) (nil IntTy)))))),
-    ) ∷ [])
+use Rattle.qtt_term.specs.Signature.{Env, IntTy, StringTy}
+use Rattle.qtt_term.specs.Programs.{item, program, many, io_unit, put}
 
 -- data Same (x : Type) : Type -> Type where MkSame : Same x x; bad : Same Int String; bad = bad;
--- cast : (0 a : Type) -> (0 b : Type) -> (p : Same a b) -> a -> b; cast a _ MkSame x = x; main = putLine (cast Int String bad 3)
+-- cast : (0 a : Type) -> (0 b : Type) -> (p : Same a b) -> a -> b; cast a _ MkSame x = x; main = putLine (cast
+-- Int String bad 3)
 abbrev pub same : Term → Term → Term
 same a b = Fam (item 0) (a ▸ b ▸ ε)
 
 abbrev pub casts : Env
 casts =
-    program ((0, record { params = (𝟘, Sort 0) ∷ []; indices = Sort 0 ∷ []; level = 1; constructors = record { fields = []; results = var 0 ▸ ε } ∷ [] }) ∷ [])
+    program ((
+      0,
+      record {
+        params = (𝟘, Sort 0) ∷ [];
+        indices = Sort 0 ∷ [];
+        level = 0;
+        constructors = record { fields = []; results = var 0 ▸ ε } ∷ [];
+      },
+    ) ∷ [])
     ((2, many (same IntTy StringTy) (Def (item 2)))
     ∷ (
       3,
@@ -83,4 +30,8 @@ casts =
           (Lam 𝟘 (Sort 0) (Lam 𝟘 (Sort 0) (Lam ω (same (var 1) (var 0)) (Lam ω (var 2)
           (node (Form.case ω (item 0) 1 2 (0 ∷ [])) (var 3 ▸ var 1 ▸ var 0 ▸ var 1 ▸ ε)))))),
     )
-    ∷ (4, many io_unit (put (App ω (App ω (App 𝟘 (App 𝟘 (Def (item 3)) IntTy) StringTy) (Def (item 2))) (IntLit (pos 3))))) ∷ [])
+    ∷ (
+      4,
+      many io_unit (put (App ω (App ω (App 𝟘 (App 𝟘 (Def (item 3)) IntTy) StringTy) (Def (item 2)))
+          (IntLit (pos 3)))),
+    ) ∷ [])

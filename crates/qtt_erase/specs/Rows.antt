@@ -9,7 +9,8 @@ use Rattle.qtt_erase.specs.Binding.{Tree, ∅, ◌◂◌}
 use Rattle.qtt_erase.specs.Operator.{Operator, App, Force, Def, Con, Literal, Call, Act}
 use Rattle.qtt_erase.specs.Lean.{Fun, Thunk}
 use Rattle.qtt_erase.specs.Erasure.{erased_bodies}
-use Rattle.qtt_erase.specs.Programs.{vectors, casts}
+use Rattle.qtt_term.specs.Vectors.{vectors}
+use Rattle.qtt_erase.specs.Programs.{casts}
 
 pub record ErasureRows : Type 0 where
   pub identity_keeps : erased_bodies identity (item 0) ≡ Some (Fun (Tree.var 0))
@@ -28,7 +29,8 @@ pub record ErasureRows : Type 0 where
       (Tree.var 0)))))))
   pub total_keeps : erased_bodies vectors (item 8) ≡
       Some (Thunk (Fun (Tree.node (Operator.case (0 ∷ 2 ∷ [])) (
-      Literal (literal.Int (pos 0)) ◂ Call prim.AddInt (Tree.var 1 ◂ App (Force (Def (item 8))) (Tree.var 0) ◂ ∅) ◂ Tree.var 0 ◂ ∅))))
+      Literal (literal.Int (pos 0)) ◂ Call prim.AddInt (Tree.var 1 ◂ App (Force (Def (item 8))) (Tree.var 0) ◂ ∅)
+      ◂ Tree.var 0 ◂ ∅))))
   -- a function at 0 stays a function without argument, so that its body is not evaluated before it is forced
   pub loopy_waits : erased_bodies loops (item 0) ≡ Some (Thunk (Force (Def (item 0))))
   -- the field at 0 goes

@@ -11,8 +11,8 @@ use Rattle.qtt_term.specs.FullStep.{Cause}
 use Rattle.qtt_erase.specs.Binding.{Tree, ∅, ◌◂◌, size, push, sub}
 use Rattle.qtt_erase.specs.Operator.{Operator, binders_of, waiting_of, Code, Codes, Con, Literal}
 
--- what functions of kind A are: under how many binders their components stand, how many of these wait, what a call with an argument
--- gives, and what one without gives
+-- what functions of kind A are: under how many binders their components stand, how many of these wait, what a
+-- call with an argument gives, and what one without gives
 pub record Functions (A : Type 0) : Type 0 where
   pub binders : A → List ℕ
   pub waiting : A → ℕ
@@ -96,9 +96,11 @@ module _ {A : Type 0} (K : Functions A) where
   forcing (Tree.node (Operator.function f) ts ◂ ∅) = K.forced f ts
   forcing _ = None
 
-  -- the branch with this tag, which stands under as many binders as there are fields, with the fields in their place
+  -- the branch with this tag, which stands under as many binders as there are fields, with the fields in their
+  -- place
   abbrev pub branch_at : ℕ → List ℕ → Codes A → Codes A → Option (Code A)
-  branch_at zero (n ∷ ns) (b ◂ ts) fs = cond (eqb (size fs) n) (Some (sub (binders_of K.binders) (push fs Tree.var) b)) None
+  branch_at zero (n ∷ ns) (b ◂ ts) fs =
+      cond (eqb (size fs) n) (Some (sub (binders_of K.binders) (push fs Tree.var) b)) None
   branch_at (suc c) (n ∷ ns) (b ◂ ts) fs = branch_at c ns ts fs
   branch_at _ _ _ fs = None
 

@@ -22,7 +22,8 @@ lean_level (Lean-F.App f a) = App f.value a.value
 lean_level (Lean-F.Force f) = Force f.value
 lean_level (Lean-F.Def d) = Def d
 lean_level (Lean-F.Con c ts) = Con c (side_by_side ts.items)
-lean_level (Lean-F.Case s bs) = Tree.node (Operator.case (map (λ b. b.0) bs.items)) (side_by_side (map (λ b. b.1) bs.items) ◂◂ s.value ◂ ∅)
+lean_level (Lean-F.Case s bs) =
+    Tree.node (Operator.case (map (λ b. b.0) bs.items)) (side_by_side (map (λ b. b.1) bs.items) ◂◂ s.value ◂ ∅)
 lean_level (Lean-F.Lit l) = Literal l
 lean_level (Lean-F.Prim p ts) = Call p (side_by_side ts.items)
 lean_level (Lean-F.Act a ts) = Act (action a) (side_by_side ts.items)

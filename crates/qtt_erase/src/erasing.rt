@@ -28,7 +28,8 @@ pub fn erase(alloc: Global, env: &Globals, t: &Term) -> Result<Lean, MemoryError
 }
 
 fn erased_var(scope: &Scope<'_>, index: u32) -> Lean
-    ensures { lean result ≡ variable (slot_at (slots scope.now) index) (place_at (slots scope.now) index) }
+    ensures { lean result ≡ variable (slot_at (slots scope.now) index)
+        (place_at (slots scope.now) index) }
 {
     match scope.slot(index) {
         Slot::Filled => Lean::Var(scope.place(index)),
@@ -54,7 +55,8 @@ fn erased(
     scope: &Scope<'_>,
     source: &Term,
 ) -> Result<Lean, MemoryError>
-    ensures { IfOk result (λ l. lean l ≡ erasure (env_of env.now) (slots scope.now) (term source.now)) }
+    ensures { IfOk result (λ l. lean l ≡ erasure (env_of env.now) (slots scope.now)
+        (term source.now)) }
 {
     match source {
         Term::Var(index) => Ok(erased_var(scope, *index)),
@@ -128,7 +130,8 @@ fn erased_args(
     sources: &[Term],
     mut kept: Vec<Lean>,
 ) -> Result<Vec<Lean>, MemoryError>
-    ensures { IfOk result (λ v. leans v.items ≡ leans kept.items ++ erased_at (env_of env.now) (slots scope.now) mults.now (terms sources.now)) }
+    ensures { IfOk result (λ v. leans v.items ≡ leans kept.items ++ erased_at (env_of env.now)
+        (slots scope.now) mults.now (terms sources.now)) }
 {
     for (k, source) in sources.iter().enumerate() {
         match mults.get(k) {
@@ -147,7 +150,8 @@ fn erased_case(
     scope: &Scope<'_>,
     source: &Case,
 ) -> Result<Lean, MemoryError>
-    ensures { IfOk result (λ l. lean l ≡ erasure (env_of env.now) (slots scope.now) (term_case source.now)) }
+    ensures { IfOk result (λ l. lean l ≡ erasure (env_of env.now) (slots scope.now)
+        (term_case source.now)) }
 {
     let scrutinee = Box::new(alloc, erased(alloc, env, scope, &source.scrutinee)?)?;
     let branches = erased_all(
@@ -172,7 +176,9 @@ fn erased_all(
     family: GlobalId,
     sources: &[Branch],
 ) -> Result<Vec<LeanBranch>, MemoryError>
-    ensures { IfOk result (λ v. lean_branches v.items ≡ erased_branches (env_of env.now) (slots scope.now) mult (family_at (env_of env.now) family).constructors (term_branches sources.now)) }
+    ensures { IfOk result (λ v. lean_branches v.items ≡ erased_branches (env_of env.now)
+        (slots scope.now) mult (family_at (env_of env.now) family).constructors
+        (term_branches sources.now)) }
 {
     let mut branches = Vec::new(alloc);
     for (place, source) in sources.iter().enumerate() {
@@ -197,7 +203,8 @@ fn erased_body(
     fields: u32,
     body: &Term,
 ) -> Result<Lean, MemoryError>
-    ensures { IfOk result (λ l. lean l ≡ erasure (env_of env.now) (extend (slots scope.now) (field_slots mult mults.now fields)) (term body.now)) }
+    ensures { IfOk result (λ l. lean l ≡ erasure (env_of env.now)
+        (extend (slots scope.now) (field_slots mult mults.now fields)) (term body.now)) }
 {
     if fields == 0 {
         return erased(alloc, env, scope, body);

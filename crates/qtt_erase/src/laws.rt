@@ -2,7 +2,8 @@
 
 ghost use Rattle.qtt_erase.specs.Laws.{ErasedTermsRunInStep};
 
-/// In each environment whose bodies have no erased use, an erased term takes the steps of its term, one for one.
+/// In each environment whose bodies have no erased use, an erased term takes the steps of its
+/// term, one for one.
 pub fn erased_terms_run_in_step()
     ensures { ErasedTermsRunInStep }
 {}

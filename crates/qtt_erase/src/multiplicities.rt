@@ -52,7 +52,8 @@ pub fn field_mults(
     family: GlobalId,
     place: usize,
 ) -> Result<Vec<Mult>, MemoryError>
-    ensures { IfOk result (λ v. v.items ≡ mults_of_fields (family_at (env_of env.now) family).constructors place) }
+    ensures { IfOk result (λ v. v.items ≡ mults_of_fields
+        (family_at (env_of env.now) family).constructors place) }
 {
     match env.family(family) {
         Some(family) => constructor_mults(alloc, &family.constructors, place),
@@ -66,7 +67,8 @@ fn constructor_mults(
     constructors: &[Constructor],
     place: usize,
 ) -> Result<Vec<Mult>, MemoryError>
-    ensures { IfOk result (λ v. v.items ≡ mults_of_fields (map constructor constructors.now) place) }
+    ensures { IfOk result (λ v. v.items ≡ mults_of_fields
+        (map constructor constructors.now) place) }
 {
     match constructors.get(place) {
         Some(constructor) => tele_mults(alloc, &constructor.fields),

@@ -17,7 +17,8 @@ level_is pass zero = refl
 level_is pass (suc n) = let e : nat_lt 0 (suc n) ≡ true = grind (arith, nat_tests) in rw e refl
 
 pub binder_is : (pass : Pass) (n : ℕ) → 0 < n → (below pass n).binder ≡ inside binder_at pass (n - 1)
-binder_is pass n h = ap (λ (l : LevelReader). l.binder) (below_is pass n h) ∙ ap (λ (l : LevelReader). l.binder) (level_is pass (n - 1))
+binder_is pass n h = ap (λ (l : LevelReader). l.binder) (below_is pass n h) ∙ ap (λ (l : LevelReader). l.binder)
+    (level_is pass (n - 1))
 
 -- a level may open where one is left
 pub opens : (n : ℕ) → 0 < n → nat_lt 0 n ≡ true

@@ -32,7 +32,8 @@ chain_level_is zero = refl
 chain_level_is (suc n) = let e : nat_lt 0 (suc n) ≡ true = grind (arith, nat_tests) in rw e refl
 
 module _ (may : Bool) (R : LevelReader) (K : ChainReader) (before : ℕ) where
-  form_case : (c : Class) (x : Lexeme) (ls : List Lexeme) → x.class ≡ c → starts_form c ≡ true → expr_chain_at may R K before (x ∷ ls) ≡ unchained_at (expr_at Free may R false) (x ∷ ls)
+  form_case : (c : Class) (x : Lexeme) (ls : List Lexeme) → x.class ≡ c → starts_form c ≡ true →
+      expr_chain_at may R K before (x ∷ ls) ≡ unchained_at (expr_at Free may R false) (x ∷ ls)
   unfolding expr_chain_at expr_at other_expr_at
   form_case class.Let x ls e h = rw e refl
   form_case class.Hole x ls e h = rw e refl
@@ -40,11 +41,13 @@ module _ (may : Bool) (R : LevelReader) (K : ChainReader) (before : ℕ) where
   form_case class.Do x ls e h = rw e refl
   form_case _ x ls e h = absurd cc
 
-  form_at : (ls : List Lexeme) → begins (of starts_form) ls ≡ true → expr_chain_at may R K before ls ≡ unchained_at (expr_at Free may R false) ls
+  form_at : (ls : List Lexeme) → begins (of starts_form) ls ≡ true →
+      expr_chain_at may R K before ls ≡ unchained_at (expr_at Free may R false) ls
   form_at [] h = absurd cc
   form_at (x ∷ ls) h = form_case x.class x ls refl h
 
-  chain_case : (c : Class) (x : Lexeme) (ls : List Lexeme) → x.class ≡ c → starts_form c ≡ false → expr_chain_at may R K before (x ∷ ls) ≡ binder_chain_at may R K before (x ∷ ls)
+  chain_case : (c : Class) (x : Lexeme) (ls : List Lexeme) → x.class ≡ c → starts_form c ≡ false →
+      expr_chain_at may R K before (x ∷ ls) ≡ binder_chain_at may R K before (x ∷ ls)
   unfolding expr_chain_at
   chain_case class.Let x ls e h = absurd cc
   chain_case class.Hole x ls e h = absurd cc
@@ -56,29 +59,42 @@ module _ (may : Bool) (R : LevelReader) (K : ChainReader) (before : ℕ) where
   unfolding expr_chain_at
   chain_empty = refl
 
-  chain_at_binder : (ls : List Lexeme) → begins (of starts_form) ls ≡ false → expr_chain_at may R K before ls ≡ binder_chain_at may R K before ls
+  chain_at_binder : (ls : List Lexeme) → begins (of starts_form) ls ≡ false →
+      expr_chain_at may R K before ls ≡ binder_chain_at may R K before ls
   chain_at_binder [] h = chain_empty
   chain_at_binder (x ∷ ls) h = chain_case x.class x ls refl h
 
 -- an expression in which no binder of a chain stands
-pub form_is : (n before : ℕ) (ls : List Lexeme) → begins (of starts_form) ls ≡ true → (chains_at n).expr before ls ≡ unchained_at ((levels_at Free n).expr false) ls
-form_is n before ls h = ap (λ (k : ChainReader). k.expr before ls) (chain_level_is n) ∙ form_at (nat_lt 0 n) (below Free n) (chains_below n) before ls h ∙ sym (ap (λ (r : LevelReader). unchained_at (r.expr false) ls) (level_is Free n))
+pub form_is : (n before : ℕ) (ls : List Lexeme) → begins (of starts_form) ls ≡ true →
+    (chains_at n).expr before ls ≡ unchained_at ((levels_at Free n).expr false) ls
+form_is n before ls h = ap (λ (k : ChainReader). k.expr before ls) (chain_level_is n) ∙ form_at (nat_lt 0 n)
+    (below Free n) (chains_below n) before ls h ∙
+    sym (ap (λ (r : LevelReader). unchained_at (r.expr false) ls) (level_is Free n))
 
 -- every other one
-pub chain_is : (n before : ℕ) (ls : List Lexeme) → begins (of starts_form) ls ≡ false → (chains_at n).expr before ls ≡ binder_chain_at (nat_lt 0 n) (below Free n) (chains_below n) before ls
-chain_is n before ls h = ap (λ (k : ChainReader). k.expr before ls) (chain_level_is n) ∙ chain_at_binder (nat_lt 0 n) (below Free n) (chains_below n) before ls h
+pub chain_is : (n before : ℕ) (ls : List Lexeme) → begins (of starts_form) ls ≡ false →
+    (chains_at n).expr before ls ≡ binder_chain_at (nat_lt 0 n) (below Free n) (chains_below n) before ls
+chain_is n before ls h = ap (λ (k : ChainReader). k.expr before ls) (chain_level_is n) ∙ chain_at_binder
+    (nat_lt 0 n) (below Free n) (chains_below n) before ls h
 
 -- ---- what stops at a binder that is one too many
 
-module _ (may : Bool) (R : LevelReader) (K : ChainReader) (n : ℕ) (ls : List Lexeme) (e : Stop) (full : is_full Counts quantity.Parts n ≡ true) where
-  pub binder_stops : begins_binder ls ≡ true → Fails {A = Pending} e (extra_binder_at may ls) → Fails e (binder_chain_at may R K n ls)
+module _ (may : Bool) (R : LevelReader) (K : ChainReader) (n : ℕ) (ls : List Lexeme) (e : Stop)
+    (full : is_full Counts quantity.Parts n ≡ true) where
+  pub binder_stops : begins_binder ls ≡ true → Fails {A = Pending} e (extra_binder_at may ls) →
+      Fails e (binder_chain_at may R K n ls)
   unfolding binder_chain_at
   binder_stops b h = rw (b, full) h
 
-  pub codomain_stops : (s : Span) → Fails {A = Pending} e (cap_at (opens may (of is_arrow)) (λ _. too_deep) (λ _. one_above quantity.Parts s) ls) → Fails e (codomain_at_place may R K n s ls)
+  pub codomain_stops : (s : Span) →
+      Fails {A = Pending} e
+      (cap_at (opens may (of is_arrow)) (λ _. too_deep) (λ _. one_above quantity.Parts s) ls) →
+      Fails e (codomain_at_place may R K n s ls)
   unfolding codomain_at_place
   codomain_stops s h = rw full h
 
-  pub implicit_stops : Fails {A = Pending} e (cap_at (opens may (of is_left_brace)) (λ _. too_deep) (λ x. one_above quantity.Parts x.place) ls) → Fails e (implicit_chain_at may R K n ls)
+  pub implicit_stops : Fails {A = Pending} e
+      (cap_at (opens may (of is_left_brace)) (λ _. too_deep) (λ x. one_above quantity.Parts x.place) ls) →
+      Fails e (implicit_chain_at may R K n ls)
   unfolding implicit_chain_at
   implicit_stops h = rw full h

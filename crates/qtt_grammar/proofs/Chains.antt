@@ -33,19 +33,24 @@ module _ (may : Bool) (L : Level) (C : Chains) where
 
   -- the same behind what stands at a place
   abbrev pub CodomainAt : ℕ → Span → Says Pending
-  CodomainAt n s = cond (is_full Counts quantity.Parts n) (Above (λ _. one_above quantity.Parts s) (Codomain n)) (Codomain n)
+  CodomainAt n s = cond (is_full Counts quantity.Parts n) (Above (λ _. one_above quantity.Parts s) (Codomain n))
+      (Codomain n)
 
   abbrev pub ArrowChain : ℕ → Says Pending
-  ArrowChain n = Making second (Chain (Placed place (IsApp Free may L)) (λ c. Perhaps (chain_excess n c.1) (CodomainAt n c.0)))
+  ArrowChain n = Making second
+      (Chain (Placed place (IsApp Free may L)) (λ c. Perhaps (chain_excess n c.1) (CodomainAt n c.0)))
 
   abbrev pub BinderChain : ℕ → Says Pending
   BinderChain n = PiChain n or ArrowChain n
 
   abbrev pub ExprChain : ℕ → Says Pending
-  ExprChain n = Unchained (Letting Free may L false) or Unchained (Hole Free may L false) or Unchained (Lambda Free may L false) or Unchained (Doing Free may L false) or BinderChain n
+  ExprChain n = Unchained (Letting Free may L false) or Unchained (Hole Free may L false) or Unchained
+      (Lambda Free may L false) or Unchained (Doing Free may L false) or BinderChain n
 
   abbrev pub ImplicitStep : ℕ → Says Pending
-  ImplicitStep n = Making behind_type (Opening may is_left_brace then Token (of is_zero) (λ x. mult_of x.class) then Locally is_simple then Symbol is_colon then L.expr false then Symbol is_right_brace then Opening may is_arrow then C.typing (suc n))
+  ImplicitStep n = Making behind_type
+      (Opening may is_left_brace then Token (of is_zero) (λ x. mult_of x.class) then Locally is_simple then Symbol
+      is_colon then L.expr false then Symbol is_right_brace then Opening may is_arrow then C.typing (suc n))
 
   abbrev pub TypingChain : ℕ → Says Pending
   TypingChain n = Up_to Counts quantity.Parts n (ImplicitStep n) or ExprChain n
@@ -68,7 +73,8 @@ Settled is value P = Making second (Chain P (λ d. Weighed (λ _. d) is value))
 
 module _ (T L : Level) (C : Chains) where
   abbrev pub ConChain : Says Bool
-  ConChain = Making second (Locally is_big then Making second (Symbol is_colon then Settled (of ends_con) (of is_close) (C.typing 0)))
+  ConChain = Making second (Locally is_big then Making second
+      (Symbol is_colon then Settled (of ends_con) (of is_close) (C.typing 0)))
 
   abbrev pub ConRun : Bool → Says (List Bool)
   ConRun = Run (λ b. b) not (λ _ b. b) (λ _. ConChain)
@@ -77,10 +83,14 @@ module _ (T L : Level) (C : Chains) where
   ConsChain = Making ignored (Symbol is_close) or Making ignored (ConRun false)
 
   abbrev pub FamilyChain : Says (Unit {0})
-  FamilyChain = Making ignored (Symbol is_data then Locally is_big then Counted Free quantity.Parts 0 (IsParam Free T L) then Symbol is_colon then Settled (of is_where) place (C.expr 0) then Symbol is_open then ConsChain)
+  FamilyChain = Making ignored
+      (Symbol is_data then Locally is_big then Counted Free quantity.Parts 0
+      (IsParam Free T L) then Symbol is_colon then Settled (of is_where) place
+      (C.expr 0) then Symbol is_open then ConsChain)
 
   abbrev pub ItemChain : Says (Unit {0})
-  ItemChain = FamilyChain or Making ignored (Partial Free T L) or Making ignored (Erased Free T L) or Making ignored (Defining Free T L start)
+  ItemChain = FamilyChain or Making ignored (Partial Free T L) or Making ignored
+      (Erased Free T L) or Making ignored (Defining Free T L start)
 
   abbrev pub ImportAt : Bool → Says Bool
   ImportAt b = Making (λ _. b) (Token (opens b (of is_import)) place then Locally is_name)
@@ -92,7 +102,9 @@ module _ (T L : Level) (C : Chains) where
   EntryRun = Run (λ _. true) (λ _. true) (λ _ b. b) EntryChain
 
   abbrev pub ModuleChain : Says (Unit {0})
-  ModuleChain = Making ignored (Symbol is_open then Symbol is_module then Locally is_name then Making ignored (EntryRun true) then Symbol is_close)
+  ModuleChain = Making ignored
+      (Symbol is_open then Symbol is_module then Locally is_name then Making ignored
+      (EntryRun true) then Symbol is_close)
 
 unfoldable pub TextChain : Says (Unit {0})
 TextChain = ModuleChain (levels Free 200) (levels Free 199) (chains 200)

@@ -6,7 +6,10 @@ use Rattle.qtt_grammar.specs.Grammar.{of}
 use Rattle.qtt_phrase.proofs.Exact.{Apart, Among}
 
 abbrev pub classes : List Class
-classes = Open ∷ Next ∷ Close ∷ Module ∷ Import ∷ Data ∷ Where ∷ Do ∷ Let ∷ In ∷ Partial ∷ The ∷ Universe ∷ Small ∷ Big ∷ SmallPath ∷ BigPath ∷ Wildcard ∷ Zero ∷ One ∷ Natural ∷ Negative ∷ Text ∷ Hole ∷ LeftParen ∷ RightParen ∷ DotParen ∷ Arrow ∷ LeftArrow ∷ FatArrow ∷ Colon ∷ Equals ∷ Backslash ∷ LeftBrace ∷ RightBrace ∷ Other ∷ []
+classes = Open ∷ Next ∷ Close ∷ Module ∷ Import ∷ Data ∷ Where ∷ Do ∷ Let ∷ In ∷ Partial ∷ The ∷ Universe ∷
+    Small ∷ Big ∷ SmallPath ∷ BigPath ∷ Wildcard ∷ Zero ∷ One ∷ Natural ∷ Negative ∷ Text ∷ Hole ∷ LeftParen ∷
+    RightParen ∷ DotParen ∷ Arrow ∷ LeftArrow ∷ FatArrow ∷ Colon ∷ Equals ∷ Backslash ∷ LeftBrace ∷ RightBrace ∷
+    Other ∷ []
 
 -- the test holds of each form
 abbrev pub all_of : (Class → Bool) → List Class → Bool
@@ -40,35 +43,281 @@ within Module = (later _ _ _ (later _ _ _ (later _ _ _ (first _ _))))
 within Import = (later _ _ _ (later _ _ _ (later _ _ _ (later _ _ _ (first _ _)))))
 within Data = (later _ _ _ (later _ _ _ (later _ _ _ (later _ _ _ (later _ _ _ (first _ _))))))
 within Where = (later _ _ _ (later _ _ _ (later _ _ _ (later _ _ _ (later _ _ _ (later _ _ _ (first _ _)))))))
-within Do = (later _ _ _ (later _ _ _ (later _ _ _ (later _ _ _ (later _ _ _ (later _ _ _ (later _ _ _ (first _ _))))))))
-within Let = (later _ _ _ (later _ _ _ (later _ _ _ (later _ _ _ (later _ _ _ (later _ _ _ (later _ _ _ (later _ _ _ (first _ _)))))))))
-within In = (later _ _ _ (later _ _ _ (later _ _ _ (later _ _ _ (later _ _ _ (later _ _ _ (later _ _ _ (later _ _ _ (later _ _ _ (first _ _))))))))))
-within Partial = (later _ _ _ (later _ _ _ (later _ _ _ (later _ _ _ (later _ _ _ (later _ _ _ (later _ _ _ (later _ _ _ (later _ _ _ (later _ _ _ (first _ _)))))))))))
-within The = (later _ _ _ (later _ _ _ (later _ _ _ (later _ _ _ (later _ _ _ (later _ _ _ (later _ _ _ (later _ _ _ (later _ _ _ (later _ _ _ (later _ _ _ (first _ _))))))))))))
-within Universe = (later _ _ _ (later _ _ _ (later _ _ _ (later _ _ _ (later _ _ _ (later _ _ _ (later _ _ _ (later _ _ _ (later _ _ _ (later _ _ _ (later _ _ _ (later _ _ _ (first _ _)))))))))))))
-within Small = (later _ _ _ (later _ _ _ (later _ _ _ (later _ _ _ (later _ _ _ (later _ _ _ (later _ _ _ (later _ _ _ (later _ _ _ (later _ _ _ (later _ _ _ (later _ _ _ (later _ _ _ (first _ _))))))))))))))
-within Big = (later _ _ _ (later _ _ _ (later _ _ _ (later _ _ _ (later _ _ _ (later _ _ _ (later _ _ _ (later _ _ _ (later _ _ _ (later _ _ _ (later _ _ _ (later _ _ _ (later _ _ _ (later _ _ _ (first _ _)))))))))))))))
-within SmallPath = (later _ _ _ (later _ _ _ (later _ _ _ (later _ _ _ (later _ _ _ (later _ _ _ (later _ _ _ (later _ _ _ (later _ _ _ (later _ _ _ (later _ _ _ (later _ _ _ (later _ _ _ (later _ _ _ (later _ _ _ (first _ _))))))))))))))))
-within BigPath = (later _ _ _ (later _ _ _ (later _ _ _ (later _ _ _ (later _ _ _ (later _ _ _ (later _ _ _ (later _ _ _ (later _ _ _ (later _ _ _ (later _ _ _ (later _ _ _ (later _ _ _ (later _ _ _ (later _ _ _ (later _ _ _ (first _ _)))))))))))))))))
-within Wildcard = (later _ _ _ (later _ _ _ (later _ _ _ (later _ _ _ (later _ _ _ (later _ _ _ (later _ _ _ (later _ _ _ (later _ _ _ (later _ _ _ (later _ _ _ (later _ _ _ (later _ _ _ (later _ _ _ (later _ _ _ (later _ _ _ (later _ _ _ (first _ _))))))))))))))))))
-within Zero = (later _ _ _ (later _ _ _ (later _ _ _ (later _ _ _ (later _ _ _ (later _ _ _ (later _ _ _ (later _ _ _ (later _ _ _ (later _ _ _ (later _ _ _ (later _ _ _ (later _ _ _ (later _ _ _ (later _ _ _ (later _ _ _ (later _ _ _ (later _ _ _ (first _ _)))))))))))))))))))
-within One = (later _ _ _ (later _ _ _ (later _ _ _ (later _ _ _ (later _ _ _ (later _ _ _ (later _ _ _ (later _ _ _ (later _ _ _ (later _ _ _ (later _ _ _ (later _ _ _ (later _ _ _ (later _ _ _ (later _ _ _ (later _ _ _ (later _ _ _ (later _ _ _ (later _ _ _ (first _ _))))))))))))))))))))
-within Natural = (later _ _ _ (later _ _ _ (later _ _ _ (later _ _ _ (later _ _ _ (later _ _ _ (later _ _ _ (later _ _ _ (later _ _ _ (later _ _ _ (later _ _ _ (later _ _ _ (later _ _ _ (later _ _ _ (later _ _ _ (later _ _ _ (later _ _ _ (later _ _ _ (later _ _ _ (later _ _ _ (first _ _)))))))))))))))))))))
-within Negative = (later _ _ _ (later _ _ _ (later _ _ _ (later _ _ _ (later _ _ _ (later _ _ _ (later _ _ _ (later _ _ _ (later _ _ _ (later _ _ _ (later _ _ _ (later _ _ _ (later _ _ _ (later _ _ _ (later _ _ _ (later _ _ _ (later _ _ _ (later _ _ _ (later _ _ _ (later _ _ _ (later _ _ _ (first _ _))))))))))))))))))))))
-within Text = (later _ _ _ (later _ _ _ (later _ _ _ (later _ _ _ (later _ _ _ (later _ _ _ (later _ _ _ (later _ _ _ (later _ _ _ (later _ _ _ (later _ _ _ (later _ _ _ (later _ _ _ (later _ _ _ (later _ _ _ (later _ _ _ (later _ _ _ (later _ _ _ (later _ _ _ (later _ _ _ (later _ _ _ (later _ _ _ (first _ _)))))))))))))))))))))))
-within Hole = (later _ _ _ (later _ _ _ (later _ _ _ (later _ _ _ (later _ _ _ (later _ _ _ (later _ _ _ (later _ _ _ (later _ _ _ (later _ _ _ (later _ _ _ (later _ _ _ (later _ _ _ (later _ _ _ (later _ _ _ (later _ _ _ (later _ _ _ (later _ _ _ (later _ _ _ (later _ _ _ (later _ _ _ (later _ _ _ (later _ _ _ (first _ _))))))))))))))))))))))))
-within LeftParen = (later _ _ _ (later _ _ _ (later _ _ _ (later _ _ _ (later _ _ _ (later _ _ _ (later _ _ _ (later _ _ _ (later _ _ _ (later _ _ _ (later _ _ _ (later _ _ _ (later _ _ _ (later _ _ _ (later _ _ _ (later _ _ _ (later _ _ _ (later _ _ _ (later _ _ _ (later _ _ _ (later _ _ _ (later _ _ _ (later _ _ _ (later _ _ _ (first _ _)))))))))))))))))))))))))
-within RightParen = (later _ _ _ (later _ _ _ (later _ _ _ (later _ _ _ (later _ _ _ (later _ _ _ (later _ _ _ (later _ _ _ (later _ _ _ (later _ _ _ (later _ _ _ (later _ _ _ (later _ _ _ (later _ _ _ (later _ _ _ (later _ _ _ (later _ _ _ (later _ _ _ (later _ _ _ (later _ _ _ (later _ _ _ (later _ _ _ (later _ _ _ (later _ _ _ (later _ _ _ (first _ _))))))))))))))))))))))))))
-within DotParen = (later _ _ _ (later _ _ _ (later _ _ _ (later _ _ _ (later _ _ _ (later _ _ _ (later _ _ _ (later _ _ _ (later _ _ _ (later _ _ _ (later _ _ _ (later _ _ _ (later _ _ _ (later _ _ _ (later _ _ _ (later _ _ _ (later _ _ _ (later _ _ _ (later _ _ _ (later _ _ _ (later _ _ _ (later _ _ _ (later _ _ _ (later _ _ _ (later _ _ _ (later _ _ _ (first _ _)))))))))))))))))))))))))))
-within Arrow = (later _ _ _ (later _ _ _ (later _ _ _ (later _ _ _ (later _ _ _ (later _ _ _ (later _ _ _ (later _ _ _ (later _ _ _ (later _ _ _ (later _ _ _ (later _ _ _ (later _ _ _ (later _ _ _ (later _ _ _ (later _ _ _ (later _ _ _ (later _ _ _ (later _ _ _ (later _ _ _ (later _ _ _ (later _ _ _ (later _ _ _ (later _ _ _ (later _ _ _ (later _ _ _ (later _ _ _ (first _ _))))))))))))))))))))))))))))
-within LeftArrow = (later _ _ _ (later _ _ _ (later _ _ _ (later _ _ _ (later _ _ _ (later _ _ _ (later _ _ _ (later _ _ _ (later _ _ _ (later _ _ _ (later _ _ _ (later _ _ _ (later _ _ _ (later _ _ _ (later _ _ _ (later _ _ _ (later _ _ _ (later _ _ _ (later _ _ _ (later _ _ _ (later _ _ _ (later _ _ _ (later _ _ _ (later _ _ _ (later _ _ _ (later _ _ _ (later _ _ _ (later _ _ _ (first _ _)))))))))))))))))))))))))))))
-within FatArrow = (later _ _ _ (later _ _ _ (later _ _ _ (later _ _ _ (later _ _ _ (later _ _ _ (later _ _ _ (later _ _ _ (later _ _ _ (later _ _ _ (later _ _ _ (later _ _ _ (later _ _ _ (later _ _ _ (later _ _ _ (later _ _ _ (later _ _ _ (later _ _ _ (later _ _ _ (later _ _ _ (later _ _ _ (later _ _ _ (later _ _ _ (later _ _ _ (later _ _ _ (later _ _ _ (later _ _ _ (later _ _ _ (later _ _ _ (first _ _))))))))))))))))))))))))))))))
-within Colon = (later _ _ _ (later _ _ _ (later _ _ _ (later _ _ _ (later _ _ _ (later _ _ _ (later _ _ _ (later _ _ _ (later _ _ _ (later _ _ _ (later _ _ _ (later _ _ _ (later _ _ _ (later _ _ _ (later _ _ _ (later _ _ _ (later _ _ _ (later _ _ _ (later _ _ _ (later _ _ _ (later _ _ _ (later _ _ _ (later _ _ _ (later _ _ _ (later _ _ _ (later _ _ _ (later _ _ _ (later _ _ _ (later _ _ _ (later _ _ _ (first _ _)))))))))))))))))))))))))))))))
-within Equals = (later _ _ _ (later _ _ _ (later _ _ _ (later _ _ _ (later _ _ _ (later _ _ _ (later _ _ _ (later _ _ _ (later _ _ _ (later _ _ _ (later _ _ _ (later _ _ _ (later _ _ _ (later _ _ _ (later _ _ _ (later _ _ _ (later _ _ _ (later _ _ _ (later _ _ _ (later _ _ _ (later _ _ _ (later _ _ _ (later _ _ _ (later _ _ _ (later _ _ _ (later _ _ _ (later _ _ _ (later _ _ _ (later _ _ _ (later _ _ _ (later _ _ _ (first _ _))))))))))))))))))))))))))))))))
-within Backslash = (later _ _ _ (later _ _ _ (later _ _ _ (later _ _ _ (later _ _ _ (later _ _ _ (later _ _ _ (later _ _ _ (later _ _ _ (later _ _ _ (later _ _ _ (later _ _ _ (later _ _ _ (later _ _ _ (later _ _ _ (later _ _ _ (later _ _ _ (later _ _ _ (later _ _ _ (later _ _ _ (later _ _ _ (later _ _ _ (later _ _ _ (later _ _ _ (later _ _ _ (later _ _ _ (later _ _ _ (later _ _ _ (later _ _ _ (later _ _ _ (later _ _ _ (later _ _ _ (first _ _)))))))))))))))))))))))))))))))))
-within LeftBrace = (later _ _ _ (later _ _ _ (later _ _ _ (later _ _ _ (later _ _ _ (later _ _ _ (later _ _ _ (later _ _ _ (later _ _ _ (later _ _ _ (later _ _ _ (later _ _ _ (later _ _ _ (later _ _ _ (later _ _ _ (later _ _ _ (later _ _ _ (later _ _ _ (later _ _ _ (later _ _ _ (later _ _ _ (later _ _ _ (later _ _ _ (later _ _ _ (later _ _ _ (later _ _ _ (later _ _ _ (later _ _ _ (later _ _ _ (later _ _ _ (later _ _ _ (later _ _ _ (later _ _ _ (first _ _))))))))))))))))))))))))))))))))))
-within RightBrace = (later _ _ _ (later _ _ _ (later _ _ _ (later _ _ _ (later _ _ _ (later _ _ _ (later _ _ _ (later _ _ _ (later _ _ _ (later _ _ _ (later _ _ _ (later _ _ _ (later _ _ _ (later _ _ _ (later _ _ _ (later _ _ _ (later _ _ _ (later _ _ _ (later _ _ _ (later _ _ _ (later _ _ _ (later _ _ _ (later _ _ _ (later _ _ _ (later _ _ _ (later _ _ _ (later _ _ _ (later _ _ _ (later _ _ _ (later _ _ _ (later _ _ _ (later _ _ _ (later _ _ _ (later _ _ _ (first _ _)))))))))))))))))))))))))))))))))))
-within Other = (later _ _ _ (later _ _ _ (later _ _ _ (later _ _ _ (later _ _ _ (later _ _ _ (later _ _ _ (later _ _ _ (later _ _ _ (later _ _ _ (later _ _ _ (later _ _ _ (later _ _ _ (later _ _ _ (later _ _ _ (later _ _ _ (later _ _ _ (later _ _ _ (later _ _ _ (later _ _ _ (later _ _ _ (later _ _ _ (later _ _ _ (later _ _ _ (later _ _ _ (later _ _ _ (later _ _ _ (later _ _ _ (later _ _ _ (later _ _ _ (later _ _ _ (later _ _ _ (later _ _ _ (later _ _ _ (later _ _ _ (first _ _))))))))))))))))))))))))))))))))))))
+within Do =
+    (later _ _ _ (later _ _ _ (later _ _ _ (later _ _ _ (later _ _ _ (later _ _ _ (later _ _ _ (first _ _))))))))
+within Let = (later _ _ _
+    (later _ _ _ (later _ _ _ (later _ _ _ (later _ _ _ (later _ _ _ (later _ _ _ (later _ _ _ (first _ _)))))))))
+within In =
+    (later _ _ _ (later _ _ _
+    (later _ _ _ (later _ _ _
+    (later _ _ _ (later _ _ _ (later _ _ _ (later _ _ _ (later _ _ _ (first _ _))))))))))
+within Partial = (later _ _ _
+    (later _ _ _ (later _ _ _
+    (later _ _ _ (later _ _ _
+    (later _ _ _ (later _ _ _ (later _ _ _ (later _ _ _ (later _ _ _ (first _ _)))))))))))
+within The = (later _ _ _
+    (later _ _ _ (later _ _ _
+    (later _ _ _ (later _ _ _
+    (later _ _ _ (later _ _ _ (later _ _ _ (later _ _ _ (later _ _ _ (later _ _ _ (first _ _))))))))))))
+within Universe = (later _ _ _
+    (later _ _ _ (later _ _ _
+    (later _ _ _ (later _ _ _
+    (later _ _ _ (later _ _ _
+    (later _ _ _ (later _ _ _ (later _ _ _ (later _ _ _ (later _ _ _ (first _ _)))))))))))))
+within Small = (later _ _ _
+    (later _ _ _ (later _ _ _
+    (later _ _ _ (later _ _ _
+    (later _ _ _ (later _ _ _
+    (later _ _ _ (later _ _ _ (later _ _ _ (later _ _ _ (later _ _ _ (later _ _ _ (first _ _))))))))))))))
+within Big = (later _ _ _
+    (later _ _ _ (later _ _ _
+    (later _ _ _ (later _ _ _
+    (later _ _ _ (later _ _ _
+    (later _ _ _ (later _ _ _
+    (later _ _ _ (later _ _ _ (later _ _ _ (later _ _ _ (later _ _ _ (first _ _)))))))))))))))
+within SmallPath = (later _ _ _
+    (later _ _ _ (later _ _ _
+    (later _ _ _ (later _ _ _
+    (later _ _ _ (later _ _ _
+    (later _ _ _ (later _ _ _
+    (later _ _ _ (later _ _ _ (later _ _ _ (later _ _ _ (later _ _ _ (later _ _ _ (first _ _))))))))))))))))
+within BigPath = (later _ _ _
+    (later _ _ _ (later _ _ _
+    (later _ _ _ (later _ _ _
+    (later _ _ _ (later _ _ _
+    (later _ _ _ (later _ _ _
+    (later _ _ _ (later _ _ _
+    (later _ _ _ (later _ _ _ (later _ _ _ (later _ _ _ (later _ _ _ (first _ _)))))))))))))))))
+within Wildcard = (later _ _ _
+    (later _ _ _ (later _ _ _
+    (later _ _ _ (later _ _ _
+    (later _ _ _ (later _ _ _
+    (later _ _ _ (later _ _ _
+    (later _ _ _ (later _ _ _
+    (later _ _ _ (later _ _ _ (later _ _ _ (later _ _ _ (later _ _ _ (later _ _ _ (first _ _))))))))))))))))))
+within Zero = (later _ _ _
+    (later _ _ _ (later _ _ _
+    (later _ _ _ (later _ _ _
+    (later _ _ _ (later _ _ _
+    (later _ _ _ (later _ _ _
+    (later _ _ _ (later _ _ _
+    (later _ _ _ (later _ _ _
+    (later _ _ _ (later _ _ _ (later _ _ _ (later _ _ _ (later _ _ _ (first _ _)))))))))))))))))))
+within One = (later _ _ _
+    (later _ _ _ (later _ _ _
+    (later _ _ _ (later _ _ _
+    (later _ _ _ (later _ _ _
+    (later _ _ _ (later _ _ _
+    (later _ _ _ (later _ _ _
+    (later _ _ _ (later _ _ _
+    (later _ _ _ (later _ _ _ (later _ _ _ (later _ _ _ (later _ _ _ (later _ _ _ (first _ _))))))))))))))))))))
+within Natural = (later _ _ _
+    (later _ _ _ (later _ _ _
+    (later _ _ _ (later _ _ _
+    (later _ _ _ (later _ _ _
+    (later _ _ _ (later _ _ _
+    (later _ _ _ (later _ _ _
+    (later _ _ _ (later _ _ _
+    (later _ _ _ (later _ _ _
+    (later _ _ _ (later _ _ _ (later _ _ _ (later _ _ _ (later _ _ _ (first _ _)))))))))))))))))))))
+within Negative = (later _ _ _
+    (later _ _ _ (later _ _ _
+    (later _ _ _ (later _ _ _
+    (later _ _ _ (later _ _ _
+    (later _ _ _ (later _ _ _
+    (later _ _ _ (later _ _ _
+    (later _ _ _ (later _ _ _
+    (later _ _ _ (later _ _ _
+    (later _ _ _ (later _ _ _ (later _ _ _ (later _ _ _ (later _ _ _ (later _ _ _ (first _ _))))))))))))))))))))))
+within Text = (later _ _ _
+    (later _ _ _ (later _ _ _
+    (later _ _ _ (later _ _ _
+    (later _ _ _ (later _ _ _
+    (later _ _ _ (later _ _ _
+    (later _ _ _ (later _ _ _
+    (later _ _ _ (later _ _ _
+    (later _ _ _ (later _ _ _
+    (later _ _ _ (later _ _ _
+    (later _ _ _ (later _ _ _ (later _ _ _ (later _ _ _ (later _ _ _ (first _ _)))))))))))))))))))))))
+within Hole = (later _ _ _
+    (later _ _ _ (later _ _ _
+    (later _ _ _ (later _ _ _
+    (later _ _ _ (later _ _ _
+    (later _ _ _ (later _ _ _
+    (later _ _ _ (later _ _ _
+    (later _ _ _ (later _ _ _
+    (later _ _ _ (later _ _ _
+    (later _ _ _ (later _ _ _
+    (later _ _ _ (later _ _ _
+    (later _ _ _ (later _ _ _ (later _ _ _ (later _ _ _ (first _ _))))))))))))))))))))))))
+within LeftParen = (later _ _ _
+    (later _ _ _ (later _ _ _
+    (later _ _ _ (later _ _ _
+    (later _ _ _ (later _ _ _
+    (later _ _ _ (later _ _ _
+    (later _ _ _ (later _ _ _
+    (later _ _ _ (later _ _ _
+    (later _ _ _ (later _ _ _
+    (later _ _ _ (later _ _ _
+    (later _ _ _ (later _ _ _
+    (later _ _ _ (later _ _ _ (later _ _ _ (later _ _ _ (later _ _ _ (first _ _)))))))))))))))))))))))))
+within RightParen = (later _ _ _
+    (later _ _ _ (later _ _ _
+    (later _ _ _ (later _ _ _
+    (later _ _ _ (later _ _ _
+    (later _ _ _ (later _ _ _
+    (later _ _ _ (later _ _ _
+    (later _ _ _ (later _ _ _
+    (later _ _ _ (later _ _ _
+    (later _ _ _ (later _ _ _
+    (later _ _ _ (later _ _ _
+    (later _ _ _ (later _ _ _
+    (later _ _ _ (later _ _ _ (later _ _ _ (later _ _ _ (first _ _))))))))))))))))))))))))))
+within DotParen = (later _ _ _
+    (later _ _ _ (later _ _ _
+    (later _ _ _ (later _ _ _
+    (later _ _ _ (later _ _ _
+    (later _ _ _ (later _ _ _
+    (later _ _ _ (later _ _ _
+    (later _ _ _ (later _ _ _
+    (later _ _ _ (later _ _ _
+    (later _ _ _ (later _ _ _
+    (later _ _ _ (later _ _ _
+    (later _ _ _ (later _ _ _
+    (later _ _ _ (later _ _ _ (later _ _ _ (later _ _ _ (later _ _ _ (first _ _)))))))))))))))))))))))))))
+within Arrow = (later _ _ _
+    (later _ _ _ (later _ _ _
+    (later _ _ _ (later _ _ _
+    (later _ _ _ (later _ _ _
+    (later _ _ _ (later _ _ _
+    (later _ _ _ (later _ _ _
+    (later _ _ _ (later _ _ _
+    (later _ _ _ (later _ _ _
+    (later _ _ _ (later _ _ _
+    (later _ _ _ (later _ _ _
+    (later _ _ _ (later _ _ _
+    (later _ _ _ (later _ _ _
+    (later _ _ _ (later _ _ _ (later _ _ _ (later _ _ _ (first _ _))))))))))))))))))))))))))))
+within LeftArrow = (later _ _ _
+    (later _ _ _ (later _ _ _
+    (later _ _ _ (later _ _ _
+    (later _ _ _ (later _ _ _
+    (later _ _ _ (later _ _ _
+    (later _ _ _ (later _ _ _
+    (later _ _ _ (later _ _ _
+    (later _ _ _ (later _ _ _
+    (later _ _ _ (later _ _ _
+    (later _ _ _ (later _ _ _
+    (later _ _ _ (later _ _ _
+    (later _ _ _ (later _ _ _
+    (later _ _ _ (later _ _ _ (later _ _ _ (later _ _ _ (later _ _ _ (first _ _)))))))))))))))))))))))))))))
+within FatArrow = (later _ _ _
+    (later _ _ _ (later _ _ _
+    (later _ _ _ (later _ _ _
+    (later _ _ _ (later _ _ _
+    (later _ _ _ (later _ _ _
+    (later _ _ _ (later _ _ _
+    (later _ _ _ (later _ _ _
+    (later _ _ _ (later _ _ _
+    (later _ _ _ (later _ _ _
+    (later _ _ _ (later _ _ _
+    (later _ _ _ (later _ _ _
+    (later _ _ _ (later _ _ _
+    (later _ _ _ (later _ _ _
+    (later _ _ _ (later _ _ _ (later _ _ _ (later _ _ _ (first _ _))))))))))))))))))))))))))))))
+within Colon = (later _ _ _
+    (later _ _ _ (later _ _ _
+    (later _ _ _ (later _ _ _
+    (later _ _ _ (later _ _ _
+    (later _ _ _ (later _ _ _
+    (later _ _ _ (later _ _ _
+    (later _ _ _ (later _ _ _
+    (later _ _ _ (later _ _ _
+    (later _ _ _ (later _ _ _
+    (later _ _ _ (later _ _ _
+    (later _ _ _ (later _ _ _
+    (later _ _ _ (later _ _ _
+    (later _ _ _ (later _ _ _
+    (later _ _ _ (later _ _ _ (later _ _ _ (later _ _ _ (later _ _ _ (first _ _)))))))))))))))))))))))))))))))
+within Equals = (later _ _ _
+    (later _ _ _ (later _ _ _
+    (later _ _ _ (later _ _ _
+    (later _ _ _ (later _ _ _
+    (later _ _ _ (later _ _ _
+    (later _ _ _ (later _ _ _
+    (later _ _ _ (later _ _ _
+    (later _ _ _ (later _ _ _
+    (later _ _ _ (later _ _ _
+    (later _ _ _ (later _ _ _
+    (later _ _ _ (later _ _ _
+    (later _ _ _ (later _ _ _
+    (later _ _ _ (later _ _ _
+    (later _ _ _ (later _ _ _
+    (later _ _ _ (later _ _ _ (later _ _ _ (later _ _ _ (first _ _))))))))))))))))))))))))))))))))
+within Backslash = (later _ _ _
+    (later _ _ _ (later _ _ _
+    (later _ _ _ (later _ _ _
+    (later _ _ _ (later _ _ _
+    (later _ _ _ (later _ _ _
+    (later _ _ _ (later _ _ _
+    (later _ _ _ (later _ _ _
+    (later _ _ _ (later _ _ _
+    (later _ _ _ (later _ _ _
+    (later _ _ _ (later _ _ _
+    (later _ _ _ (later _ _ _
+    (later _ _ _ (later _ _ _
+    (later _ _ _ (later _ _ _
+    (later _ _ _ (later _ _ _
+    (later _ _ _ (later _ _ _ (later _ _ _ (later _ _ _ (later _ _ _ (first _ _)))))))))))))))))))))))))))))))))
+within LeftBrace = (later _ _ _
+    (later _ _ _ (later _ _ _
+    (later _ _ _ (later _ _ _
+    (later _ _ _ (later _ _ _
+    (later _ _ _ (later _ _ _
+    (later _ _ _ (later _ _ _
+    (later _ _ _ (later _ _ _
+    (later _ _ _ (later _ _ _
+    (later _ _ _ (later _ _ _
+    (later _ _ _ (later _ _ _
+    (later _ _ _ (later _ _ _
+    (later _ _ _ (later _ _ _
+    (later _ _ _ (later _ _ _
+    (later _ _ _ (later _ _ _
+    (later _ _ _ (later _ _ _
+    (later _ _ _ (later _ _ _ (later _ _ _ (later _ _ _ (first _ _))))))))))))))))))))))))))))))))))
+within RightBrace = (later _ _ _
+    (later _ _ _ (later _ _ _
+    (later _ _ _ (later _ _ _
+    (later _ _ _ (later _ _ _
+    (later _ _ _ (later _ _ _
+    (later _ _ _ (later _ _ _
+    (later _ _ _ (later _ _ _
+    (later _ _ _ (later _ _ _
+    (later _ _ _ (later _ _ _
+    (later _ _ _ (later _ _ _
+    (later _ _ _ (later _ _ _
+    (later _ _ _ (later _ _ _
+    (later _ _ _ (later _ _ _
+    (later _ _ _ (later _ _ _
+    (later _ _ _ (later _ _ _
+    (later _ _ _ (later _ _ _ (later _ _ _ (later _ _ _ (later _ _ _ (first _ _)))))))))))))))))))))))))))))))))))
+within Other = (later _ _ _
+    (later _ _ _ (later _ _ _
+    (later _ _ _ (later _ _ _
+    (later _ _ _ (later _ _ _
+    (later _ _ _ (later _ _ _
+    (later _ _ _ (later _ _ _
+    (later _ _ _ (later _ _ _
+    (later _ _ _ (later _ _ _
+    (later _ _ _ (later _ _ _
+    (later _ _ _ (later _ _ _
+    (later _ _ _ (later _ _ _
+    (later _ _ _ (later _ _ _
+    (later _ _ _ (later _ _ _
+    (later _ _ _ (later _ _ _
+    (later _ _ _ (later _ _ _
+    (later _ _ _ (later _ _ _
+    (later _ _ _ (later _ _ _ (later _ _ _ (later _ _ _ (first _ _))))))))))))))))))))))))))))))))))))
 
 pub each : (f : Class → Bool) → every f ≡ true → (c : Class) → f c ≡ true
 each f e c = in_all f c classes (within c) e
@@ -91,7 +340,8 @@ refuted false e = refl
 
 -- no form is of both kinds
 pub apart : (t u : Class → Bool) → every (λ c. implies (u c) (not (t c))) ≡ true → Apart (of t) (of u)
-apart t u e x h = refuted (t x.class) (implied (u x.class) (not (t x.class)) (each (λ c. implies (u c) (not (t c))) e x.class) h)
+apart t u e x h = refuted (t x.class)
+    (implied (u x.class) (not (t x.class)) (each (λ c. implies (u c) (not (t c))) e x.class) h)
 
 -- each form of the one kind is of the other
 pub among : (t u : Class → Bool) → every (λ c. implies (t c) (u c)) ≡ true → Among (of t) (of u)

@@ -30,29 +30,44 @@ abbrev entries_run : (Place → Reads Entry) → ℕ → Place → Reads (List E
 entries_run p m at = run_at (λ _. true) (λ _. true) next_place (λ _. of is_next) p m at
 
 -- entries with these parts were read, and from the rest at most so many are still to be read
-pub record ReadSoFar (p : Place → Reads Entry) (parts : Parts) (at : Place) (m : ℕ) (ls : List Lexeme) (total : Read Lexeme Excess (List Entry)) : Type 0 where
+pub record ReadSoFar (p : Place → Reads Entry) (parts : Parts) (at : Place) (m : ℕ) (ls : List Lexeme)
+    (total : Read Lexeme Excess (List Entry)) : Type 0 where
   pub front : List Entry
   pub parts_are : parts_of front ≡ parts
   pub so_far : with_front front (entries_run p m at ls) ≡ total
 
-module _ (p : Place → Reads Entry) (parts : Parts) (at : Place) (ls : List Lexeme) (total : Read Lexeme Excess (List Entry)) where
-  ended_parts : (front : List Entry) → parts_of front ≡ parts → total ≡ got front ls → (total >>= λ es rest. got (parts_of es) rest) ≡ got parts ls
+module _ (p : Place → Reads Entry) (parts : Parts) (at : Place) (ls : List Lexeme)
+    (total : Read Lexeme Excess (List Entry)) where
+  ended_parts : (front : List Entry) → parts_of front ≡ parts → total ≡ got front ls →
+      (total >>= λ es rest. got (parts_of es) rest) ≡ got parts ls
   ended_parts front e h = rw h (ap (λ (x : Parts). got x ls) e)
 
-  pub entries_end : (m : ℕ) → begins (of is_next) ls ≡ false → ReadSoFar p parts at m ls total → (total >>= λ es rest. got (parts_of es) rest) ≡ got parts ls
-  entries_end m b r = ended_parts r.front r.parts_are (ends_here (λ _. true) (λ _. true) next_place (λ _. of is_next) p r.front at ls total m b r.so_far ∙ ended_got r.front ls)
+  pub entries_end : (m : ℕ) → begins (of is_next) ls ≡ false → ReadSoFar p parts at m ls total →
+      (total >>= λ es rest. got (parts_of es) rest) ≡ got parts ls
+  entries_end m b r = ended_parts r.front r.parts_are
+      (ends_here (λ _. true) (λ _. true) next_place (λ _. of is_next) p r.front at ls total m b r.so_far ∙
+      ended_got r.front ls)
 
-  pub entries_out : (m : ℕ) → m ≡ 0 → ReadSoFar p parts at m ls total → (total >>= λ es rest. got (parts_of es) rest) ≡ got parts ls
-  entries_out m e r = ended_parts r.front r.parts_are (ends_out (λ _. true) (λ _. true) next_place (λ _. of is_next) p r.front at ls total m e r.so_far ∙ ended_got r.front ls)
+  pub entries_out : (m : ℕ) → m ≡ 0 → ReadSoFar p parts at m ls total →
+      (total >>= λ es rest. got (parts_of es) rest) ≡ got parts ls
+  entries_out m e r = ended_parts r.front r.parts_are
+      (ends_out (λ _. true) (λ _. true) next_place (λ _. of is_next) p r.front at ls total m e r.so_far ∙
+      ended_got r.front ls)
 
-  pub entries_stop : (e : Stop) (n i : ℕ) → i < n → begins (of is_next) ls ≡ true → Fails e (p at ls) → ReadSoFar p parts at (n - i) ls total → Fails e (total >>= λ es rest. got (parts_of es) rest)
-  entries_stop e n i lt b h r = made_stops parts_of (λ _. total) [] e (stops_by (λ _. true) (λ _. true) next_place (λ _. of is_next) p r.front at ls total e n i lt b h r.so_far)
+  pub entries_stop : (e : Stop) (n i : ℕ) → i < n → begins (of is_next) ls ≡ true → Fails e (p at ls) →
+      ReadSoFar p parts at (n - i) ls total → Fails e (total >>= λ es rest. got (parts_of es) rest)
+  entries_stop e n i lt b h r =
+      made_stops parts_of (λ _. total) [] e
+      (stops_by (λ _. true) (λ _. true) next_place (λ _. of is_next) p r.front at ls total e n i lt b h r.so_far)
 
-  pub entries_go : (n i : ℕ) (rest : List Lexeme) (a : Entry) → i < n → begins (of is_next) ls ≡ true → p at ls ≡ got a rest → ReadSoFar p parts at (n - i) ls total → ReadSoFar p (joined_body parts (a ∷ [])) (next_place at a) (n - (i + 1)) rest total
+  pub entries_go : (n i : ℕ) (rest : List Lexeme) (a : Entry) → i < n → begins (of is_next) ls ≡ true →
+      p at ls ≡ got a rest → ReadSoFar p parts at (n - i) ls total →
+      ReadSoFar p (joined_body parts (a ∷ [])) (next_place at a) (n - (i + 1)) rest total
   entries_go n i rest a lt b h r = record {
     front = r.front ++ a ∷ [];
     parts_are = parts_more r.front (a ∷ []) ∙ ap (λ (x : Parts). joined_body x (a ∷ [])) r.parts_are;
-    so_far = goes_on (λ _. true) (λ _. true) next_place (λ _. of is_next) p r.front at ls total n i rest a lt b h r.so_far;
+    so_far = goes_on (λ _. true) (λ _. true) next_place (λ _. of is_next) p r.front at ls total n i rest a lt b h
+        r.so_far;
   }
 
 no_front : (r : Read Lexeme Excess (List Entry)) → with_front [] r ≡ r
@@ -61,9 +76,17 @@ no_front (bad k ls) = refl
 no_front (over f ls) = refl
 
 -- nothing is read yet
-pub entries_start : (pass : Pass) (n : ℕ) (parts : Parts) (at : Place) (ls : List Lexeme) → parts ≡ ([], []) → at ≡ start → ReadSoFar (within entry_at pass n) parts at (length ls - 0) ls (within entries_at pass n start ls)
+pub entries_start : (pass : Pass) (n : ℕ) (parts : Parts) (at : Place) (ls : List Lexeme) → parts ≡ ([], []) →
+    at ≡ start → ReadSoFar (within entry_at pass n) parts at (length ls - 0) ls
+    (within entries_at pass n start ls)
 unfolding entries_at
-entries_start pass n parts at ls e f = record { front = []; parts_are = sym e; so_far = (let z : length ls - 0 ≡ length ls = omega arith in rw (f, z) (no_front (entries_run (within entry_at pass n) (length ls) start ls))) }
+entries_start pass n parts at ls e f =
+    record {
+      front = [];
+      parts_are = sym e;
+      so_far = (let z : length ls - 0 ≡ length ls = omega arith in
+          rw (f, z) (no_front (entries_run (within entry_at pass n) (length ls) start ls)));
+    }
 
 cond_small : (b : Bool) (n : ℕ) → cond b n 0 ≤ n
 cond_small true n = omega arith
@@ -74,4 +97,5 @@ pub clauses_step : (at : Place) (e : Entry) → (next_place at e).clauses ≤ at
 clauses_step at (imported i) = omega arith
 clauses_step at (listed (family n ns ps t cs s)) = omega arith
 clauses_step at (listed (signature p m n ns t s)) = omega arith
-clauses_step at (listed (clause n ps side s)) = let h = cond_small (same_name at.clauses_of n) at.clauses in omega (arith, h)
+clauses_step at (listed (clause n ps side s)) = let h =
+    cond_small (same_name at.clauses_of n) at.clauses in omega (arith, h)

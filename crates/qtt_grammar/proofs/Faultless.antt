@@ -29,7 +29,8 @@ both_none (Some x) q e = absurd cc
 
 -- ---- the forms of phrases
 
-pub weighed : {A : Type 0} (faults : Lexeme → Option Excess) (is : Lexeme → Bool) (value : Lexeme → A) → ((x : Lexeme) → faults x ≡ None) → Faultless (Weighed faults is value)
+pub weighed : {A : Type 0} (faults : Lexeme → Option Excess) (is : Lexeme → Bool) (value : Lexeme → A) →
+    ((x : Lexeme) → faults x ≡ None) → Faultless (Weighed faults is value)
 weighed faults is value h = record { at = λ us a o m. sym m.4 ∙ h m.0 }
 
 pub tok : {A : Type 0} (is : Lexeme → Bool) (value : Lexeme → A) → Faultless (Token is value)
@@ -44,7 +45,8 @@ opener may is = tok (opens may (of is)) place
 pub locally : (is : Class → Bool) → Faultless (Locally is)
 locally is = tok (of is) local_of
 
-pub chain : {A B : Type 0} {P : Says A} {Q : A → Says B} → Faultless P → ((a : A) → Faultless (Q a)) → Faultless (Chain P Q)
+pub chain : {A B : Type 0} {P : Says A} {Q : A → Says B} → Faultless P →
+    ((a : A) → Faultless (Q a)) → Faultless (Chain P Q)
 chain p q = record { at = λ us c o m. sym m.7 ∙ no_first m.2 m.3 (p.at m.0 c.0 m.2 m.5) ((q c.0).at m.1 c.1 m.3 m.6) }
 
 pub seq : {A B : Type 0} {P : Says A} {Q : Says B} → Faultless P → Faultless Q → Faultless (P then Q)
@@ -53,14 +55,16 @@ seq p q = chain p (λ _. q)
 pub make : {A B : Type 0} {P : Says A} (f : A → B) → Faultless P → Faultless (Making f P)
 make f p = record { at = λ us b o m. p.at us m.0 o m.1 }
 
-either_case : {A : Type 0} {P Q : Says A} → Faultless P → Faultless Q → (us : List Lexeme) (a : A) (o : Option Excess) → (P or Q) us a o → o ≡ None
+either_case : {A : Type 0} {P Q : Says A} → Faultless P → Faultless Q →
+    (us : List Lexeme) (a : A) (o : Option Excess) → (P or Q) us a o → o ≡ None
 either_case p q us a o (inl m) = p.at us a o m
 either_case p q us a o (inr m) = q.at us a o m
 
 pub either : {A : Type 0} {P Q : Says A} → Faultless P → Faultless Q → Faultless (P or Q)
 either p q = record { at = either_case p q }
 
-perhaps_case : {A : Type 0} {P : Says A} (none : A) → Faultless P → (us : List Lexeme) (a : A) (o : Option Excess) → Perhaps none P us a o → o ≡ None
+perhaps_case : {A : Type 0} {P : Says A} (none : A) → Faultless P →
+    (us : List Lexeme) (a : A) (o : Option Excess) → Perhaps none P us a o → o ≡ None
 perhaps_case none p us a o (inl m) = sym m.2
 perhaps_case none p us a o (inr m) = p.at us a o m
 
@@ -70,18 +74,24 @@ perhaps none p = record { at = perhaps_case none p }
 placed : {A : Type 0} {P : Says A} → Faultless P → Faultless (Placed place P)
 placed p = record { at = λ us c o m. p.at us c.1 o m.4 }
 
-many_case : {A : Type 0} (P : Says A) → Faultless P → (us : List Lexeme) (as' : List A) (o : Option Excess) → Many P us as' o → o ≡ None
+many_case : {A : Type 0} (P : Says A) → Faultless P → (us : List Lexeme) (as' : List A) (o : Option Excess) →
+    Many P us as' o → o ≡ None
 many_case P p us [] o m = sym m.1
-many_case P p us (a ∷ more) o (vs, ws, i, j, e, m, ms, f) = sym f ∙ no_first i j (p.at vs a i m) (many_case P p ws more j ms)
+many_case P p us (a ∷ more) o (vs, ws, i, j, e, m, ms, f) =
+    sym f ∙ no_first i j (p.at vs a i m) (many_case P p ws more j ms)
 
 many : {A : Type 0} {P : Says A} → Faultless P → Faultless (Many P)
 many {P} p = record { at = many_case P p }
 
-run_case : {A S : Type 0} (ends goes : S → Bool) (next : S → A → S) (P : S → Says A) → ((s : S) → Faultless (P s)) → (s : S) (us : List Lexeme) (as' : List A) (o : Option Excess) → Run ends goes next P s us as' o → o ≡ None
+run_case : {A S : Type 0} (ends goes : S → Bool) (next : S → A → S) (P : S → Says A) →
+    ((s : S) → Faultless (P s)) → (s : S) (us : List Lexeme) (as' : List A) (o : Option Excess) →
+    Run ends goes next P s us as' o → o ≡ None
 run_case ends goes next P p s us [] o m = sym m.2
-run_case ends goes next P p s us (a ∷ more) o (vs, ws, i, j, e, go, m, ms, f) = sym f ∙ no_first i j ((p s).at vs a i m) (run_case ends goes next P p (next s a) ws more j ms)
+run_case ends goes next P p s us (a ∷ more) o (vs, ws, i, j, e, go, m, ms, f) =
+    sym f ∙ no_first i j ((p s).at vs a i m) (run_case ends goes next P p (next s a) ws more j ms)
 
-run : {A S : Type 0} (ends goes : S → Bool) (next : S → A → S) (P : S → Says A) (s : S) → ((s : S) → Faultless (P s)) → Faultless (Run ends goes next P s)
+run : {A S : Type 0} (ends goes : S → Bool) (next : S → A → S) (P : S → Says A) (s : S) →
+    ((s : S) → Faultless (P s)) → Faultless (Run ends goes next P s)
 run ends goes next P s p = record { at = run_case ends goes next P p s }
 
 -- ---- the productions
@@ -107,34 +117,45 @@ pub record FaultlessLevel (L : Level) : Type 0 where
 
 module _ (may : Bool) (L : Level) (inner : FaultlessLevel L) where
   pub typed : Faultless (Typed Free may L)
-  typed = make typed_of (seq (opener may is_left_paren) (seq mark (seq (locally is_bname) (seq (symbol is_colon) (seq (inner.expr false) (symbol is_right_paren))))))
+  typed = make typed_of (seq (opener may is_left_paren)
+      (seq mark (seq (locally is_bname)
+      (seq (symbol is_colon) (seq (inner.expr false) (symbol is_right_paren))))))
 
   binder : Faultless (IsBinder Free may L)
   binder = either (make plain (locally is_bname)) typed
 
   pub lambda : (tail : Bool) → Faultless (Lambda Free may L tail)
-  lambda tail = make lambda_of (seq (opener may is_backslash) (seq (seq inner.binder (many inner.binder)) (seq (symbol is_fat_arrow) (inner.expr tail))))
+  lambda tail = make lambda_of
+      (seq (opener may is_backslash)
+      (seq (seq inner.binder (many inner.binder)) (seq (symbol is_fat_arrow) (inner.expr tail))))
 
   annotation : Faultless (IsAnnotation Free may L)
   annotation = perhaps untyped (make annotation_of (seq (symbol is_colon) (inner.expr false)))
 
   let_head : Faultless (LetHead Free may L)
-  let_head = make let_parts (seq (opener may is_let) (seq mark (seq (locally is_bname) (seq annotation (seq (symbol is_equals) (inner.expr false))))))
+  let_head = make let_parts
+      (seq (opener may is_let)
+      (seq mark (seq (locally is_bname) (seq annotation (seq (symbol is_equals) (inner.expr false))))))
 
   pub letting : (tail : Bool) → Faultless (Letting Free may L tail)
   letting tail = make let_of (seq let_head (seq (symbol is_in) (inner.expr tail)))
 
   lines : (tail : Bool) (l : Line) → Faultless (Lines Free may L tail l)
-  lines tail l = run may_end may_go next_line (λ l. Making next_of (Symbol is_next then Up_to Free quantity.Statements l.0 (L.statement tail))) l (λ l. make next_of (seq (symbol is_next) (inner.statement tail)))
+  lines tail l = run may_end may_go next_line
+      (λ l. Making next_of (Symbol is_next then Up_to Free quantity.Statements l.0 (L.statement tail))) l
+      (λ l. make next_of (seq (symbol is_next) (inner.statement tail)))
 
   pub doing : (tail : Bool) → Faultless (Doing Free may L tail)
-  doing tail = make do_of (seq (opener may is_do) (seq (symbol is_open) (seq (chain (inner.statement tail) (λ s. lines tail (1, standing_of s))) (symbol is_close))))
+  doing tail = make do_of (seq (opener may is_do)
+      (seq (symbol is_open)
+      (seq (chain (inner.statement tail) (λ s. lines tail (1, standing_of s))) (symbol is_close))))
 
   bracket : Faultless (Bracket Free may L)
   bracket = make bracket_of (seq (opener may is_left_paren) (seq (inner.expr false) (symbol is_right_paren)))
 
   other_atom : Faultless (OtherAtom Free may L)
-  other_atom = either (weighed (excess_of Free) (of is_word) (λ x. word_of x.class x) (λ x. word_free x.class x)) bracket
+  other_atom = either (weighed (excess_of Free) (of is_word) (λ x. word_of x.class x) (λ x. word_free x.class x))
+      bracket
 
   atom : Faultless (IsAtom Free may L)
   atom = either (make name (tok (of is_name) named_of)) other_atom
@@ -146,10 +167,13 @@ module _ (may : Bool) (L : Level) (inner : FaultlessLevel L) where
   brace = make braced_of (seq (opener may is_left_brace) (seq (inner.expr false) (symbol is_right_brace)))
 
   pub app : Faultless (IsApp Free may L)
-  app = either (make the_of (seq (symbol is_the) (seq atom atom))) (either (make named_app_of (seq (tok (of is_name) named_of) (seq (many brace) atoms))) (make other_app_of (placed (seq other_atom atoms))))
+  app = either (make the_of (seq (symbol is_the) (seq atom atom)))
+      (either (make named_app_of (seq (tok (of is_name) named_of) (seq (many brace) atoms)))
+      (make other_app_of (placed (seq other_atom atoms))))
 
   arrow : Faultless (Arrow Free may L)
-  arrow = make arrow_of (seq (placed app) (perhaps None (make behind_of (seq (opener may is_arrow) (inner.expr false)))))
+  arrow = make arrow_of (seq (placed app)
+      (perhaps None (make behind_of (seq (opener may is_arrow) (inner.expr false)))))
 
   pi : Faultless (Pi Free may L)
   pi = make pi_of (seq typed (seq (opener may is_arrow) (inner.expr false)))
@@ -165,14 +189,22 @@ module _ (may : Bool) (L : Level) (inner : FaultlessLevel L) where
 
   statement : (tail : Bool) → Faultless (IsStatement Free may L tail)
   statement tail =
-      either (make let_statement_of (seq let_head (perhaps None (make after_in (seq (symbol is_in) (inner.expr tail))))))
-      (either (make bind_of (seq (locally is_bname) (seq (symbol is_left_arrow) (expr false)))) (make run_of (placed (other_expr tail))))
+      either (make let_statement_of
+      (seq let_head (perhaps None (make after_in (seq (symbol is_in) (inner.expr tail))))))
+      (either (make bind_of (seq (locally is_bname) (seq (symbol is_left_arrow) (expr false))))
+      (make run_of (placed (other_expr tail))))
 
   implicit : Faultless (Implicit Free may L)
-  implicit = make implicit_of (seq (opener may is_left_brace) (seq (tok (of is_zero) (λ x. mult_of x.class)) (seq (locally is_simple) (seq (symbol is_colon) (seq (inner.expr false) (seq (symbol is_right_brace) (seq (opener may is_arrow) inner.typing)))))))
+  implicit = make implicit_of
+      (seq (opener may is_left_brace)
+      (seq (tok (of is_zero) (λ x. mult_of x.class))
+      (seq (locally is_simple)
+      (seq (symbol is_colon)
+      (seq (inner.expr false) (seq (symbol is_right_brace) (seq (opener may is_arrow) inner.typing)))))))
 
   counted : Faultless (Counted Free quantity.Parts 0 L.pattern)
-  counted = run (λ _. true) (λ _. true) (λ n _. suc n) (λ n. Up_to Free quantity.Parts n L.pattern) 0 (λ n. inner.pattern)
+  counted = run (λ _. true) (λ _. true) (λ n _. suc n) (λ n. Up_to Free quantity.Parts n L.pattern) 0
+      (λ n. inner.pattern)
 
   inside : Faultless (Inside Free may L)
   inside = either (make group_of (seq (tok (of is_constructor) named_of) counted)) (make nested_of inner.other_pattern)
@@ -180,7 +212,8 @@ module _ (may : Bool) (L : Level) (inner : FaultlessLevel L) where
   other_pattern : Faultless (OtherPattern Free may L)
   other_pattern =
       either (tok (of is_pattern_word) (λ x. pattern_word x.class x))
-      (either (make dot_of (seq (opener may is_dot_paren) (seq (inner.expr false) (symbol is_right_paren)))) (make bracketed_of (seq (opener may is_left_paren) (seq inside (symbol is_right_paren)))))
+      (either (make dot_of (seq (opener may is_dot_paren) (seq (inner.expr false) (symbol is_right_paren))))
+      (make bracketed_of (seq (opener may is_left_paren) (seq inside (symbol is_right_paren)))))
 
   pub level : FaultlessLevel (Shape_of Free may L)
   level = record {
@@ -211,13 +244,19 @@ all_levels (suc d) = level true (levels Free d) (all_levels d)
 
 module _ (T L : Level) (top : FaultlessLevel T) (inner : FaultlessLevel L) where
   param : Faultless (IsParam Free T L)
-  param = make param_of (seq (opener true is_left_paren) (seq zero_mark (seq (locally is_simple) (seq (symbol is_colon) (seq (inner.expr false) (symbol is_right_paren))))))
+  param = make param_of (seq (opener true is_left_paren)
+      (seq zero_mark (seq (locally is_simple)
+      (seq (symbol is_colon) (seq (inner.expr false) (symbol is_right_paren))))))
 
   pub params : Faultless (Counted Free quantity.Parts 0 (IsParam Free T L))
-  params = run (λ _. true) (λ _. true) (λ n _. suc n) (λ n. Up_to Free quantity.Parts n (IsParam Free T L)) 0 (λ n. param)
+  params = run (λ _. true) (λ _. true) (λ n _. suc n) (λ n. Up_to Free quantity.Parts n (IsParam Free T L)) 0
+      (λ n. param)
 
   pub partial_item : Faultless (Partial Free T L)
-  partial_item = make partial_of (seq (symbol is_partial) (seq (perhaps None (make Some (symbol is_next))) (seq zero_mark (seq (locally is_simple) (seq (symbol is_colon) top.typing)))))
+  partial_item = make partial_of
+      (seq (symbol is_partial)
+      (seq (perhaps None (make Some (symbol is_next)))
+      (seq zero_mark (seq (locally is_simple) (seq (symbol is_colon) top.typing)))))
 
   pub erased_item : Faultless (Erased Free T L)
   erased_item = make erased_of (seq (symbol is_zero) (seq (locally is_simple) (seq (symbol is_colon) top.typing)))
@@ -226,7 +265,8 @@ module _ (T L : Level) (top : FaultlessLevel T) (inner : FaultlessLevel L) where
   signing n = make (signature_of n) (seq (symbol is_colon) top.typing)
 
   patterns : Faultless (Counted Free quantity.Parts 0 T.pattern)
-  patterns = run (λ _. true) (λ _. true) (λ n _. suc n) (λ n. Up_to Free quantity.Parts n T.pattern) 0 (λ n. top.pattern)
+  patterns = run (λ _. true) (λ _. true) (λ n _. suc n) (λ n. Up_to Free quantity.Parts n T.pattern) 0
+      (λ n. top.pattern)
 
   equation : (n : Local) → Faultless (Equation Free T L n)
   equation n = make (clause_of n) (seq patterns (seq (symbol is_equals) (top.expr true)))

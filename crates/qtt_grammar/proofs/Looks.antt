@@ -22,29 +22,38 @@ pub record Looks (r : Reads Tree) : Type 0 where
   pub wild : (x : Lexeme) (w : List Lexeme) → of is_wildcard x ≡ true → r (x ∷ w) ≡ bad unexpected (x ∷ w)
   pub name_last : (x : Lexeme) → of is_simple x ≡ true → r (x ∷ []) ≡ got (name (named_of x)) []
   pub digit_last : (x : Lexeme) → of is_digit x ≡ true → r (x ∷ []) ≡ got (word_of x.class x) []
-  pub name_then : (x y : Lexeme) (w : List Lexeme) → of is_simple x ≡ true → of halts y ≡ true → r (x ∷ y ∷ w) ≡ got (name (named_of x)) (y ∷ w)
-  pub digit_then : (x y : Lexeme) (w : List Lexeme) → of is_digit x ≡ true → of halts y ≡ true → r (x ∷ y ∷ w) ≡ got (word_of x.class x) (y ∷ w)
-  pub digit_name_then : (x y z : Lexeme) (w : List Lexeme) → of is_digit x ≡ true → of is_simple y ≡ true → of halts z ≡ true → r (x ∷ y ∷ z ∷ w) ≡ got (app_of x.place (word_of x.class x) (argument Written (name (named_of y)) ∷ [])) (z ∷ w)
+  pub name_then : (x y : Lexeme) (w : List Lexeme) → of is_simple x ≡ true → of halts y ≡ true →
+      r (x ∷ y ∷ w) ≡ got (name (named_of x)) (y ∷ w)
+  pub digit_then : (x y : Lexeme) (w : List Lexeme) → of is_digit x ≡ true → of halts y ≡ true →
+      r (x ∷ y ∷ w) ≡ got (word_of x.class x) (y ∷ w)
+  pub digit_name_then : (x y z : Lexeme) (w : List Lexeme) → of is_digit x ≡ true → of is_simple y ≡ true →
+      of halts z ≡ true → r (x ∷ y ∷ z ∷ w) ≡ got
+      (app_of x.place (word_of x.class x) (argument Written (name (named_of y)) ∷ [])) (z ∷ w)
 
 module _ (pass : Pass) (may : Bool) (R : LevelReader) (tail : Bool) where
-  wild_at : (c : Class) → is_wildcard c ≡ true → (x : Lexeme) (w : List Lexeme) → x.class ≡ c → other_expr_at pass may R tail (x ∷ w) ≡ bad unexpected (x ∷ w)
+  wild_at : (c : Class) → is_wildcard c ≡ true → (x : Lexeme) (w : List Lexeme) → x.class ≡ c →
+      other_expr_at pass may R tail (x ∷ w) ≡ bad unexpected (x ∷ w)
   unfolding other_expr_at arrow_at app_at other_app_at other_atom_at bracket_at
   wild_at class.Wildcard i x w e = rw e refl
   wild_at _ i x w e = absurd cc
 
-  name_last_at : (c : Class) → is_simple c ≡ true → (x : Lexeme) → x.class ≡ c → other_expr_at pass may R tail (x ∷ []) ≡ got (name (named_of x)) []
+  name_last_at : (c : Class) → is_simple c ≡ true →
+      (x : Lexeme) → x.class ≡ c → other_expr_at pass may R tail (x ∷ []) ≡ got (name (named_of x)) []
   unfolding other_expr_at arrow_at app_at named_app_at atoms_at
   name_last_at class.Small i x e = rw e refl
   name_last_at class.Big i x e = rw e refl
   name_last_at _ i x e = absurd cc
 
-  digit_last_at : (c : Class) → is_digit c ≡ true → (x : Lexeme) → x.class ≡ c → other_expr_at pass may R tail (x ∷ []) ≡ got (word_of x.class x) []
+  digit_last_at : (c : Class) → is_digit c ≡ true →
+      (x : Lexeme) → x.class ≡ c → other_expr_at pass may R tail (x ∷ []) ≡ got (word_of x.class x) []
   unfolding other_expr_at arrow_at app_at other_app_at other_atom_at atoms_at
   digit_last_at class.Zero i x e = rw e refl
   digit_last_at class.One i x e = rw e refl
   digit_last_at _ i x e = absurd cc
 
-  name_then_at : (c d : Class) → is_simple c ≡ true → halts d ≡ true → (x y : Lexeme) (w : List Lexeme) → x.class ≡ c → y.class ≡ d → other_expr_at pass may R tail (x ∷ y ∷ w) ≡ got (name (named_of x)) (y ∷ w)
+  name_then_at : (c d : Class) → is_simple c ≡ true → halts d ≡ true →
+      (x y : Lexeme) (w : List Lexeme) → x.class ≡ c → y.class ≡ d →
+      other_expr_at pass may R tail (x ∷ y ∷ w) ≡ got (name (named_of x)) (y ∷ w)
   unfolding other_expr_at arrow_at app_at named_app_at atoms_at
   name_then_at class.Small class.Colon i h x y w e f = rw (e, f) refl
   name_then_at class.Small class.Wildcard i h x y w e f = rw (e, f) refl
@@ -58,7 +67,9 @@ module _ (pass : Pass) (may : Bool) (R : LevelReader) (tail : Bool) where
   name_then_at class.Big _ i h x y w e f = absurd cc
   name_then_at _ d i h x y w e f = absurd cc
 
-  digit_then_at : (c d : Class) → is_digit c ≡ true → halts d ≡ true → (x y : Lexeme) (w : List Lexeme) → x.class ≡ c → y.class ≡ d → other_expr_at pass may R tail (x ∷ y ∷ w) ≡ got (word_of x.class x) (y ∷ w)
+  digit_then_at : (c d : Class) → is_digit c ≡ true → halts d ≡ true →
+      (x y : Lexeme) (w : List Lexeme) → x.class ≡ c → y.class ≡ d →
+      other_expr_at pass may R tail (x ∷ y ∷ w) ≡ got (word_of x.class x) (y ∷ w)
   unfolding other_expr_at arrow_at app_at other_app_at other_atom_at atoms_at
   digit_then_at class.Zero class.Colon i h x y w e f = rw (e, f) refl
   digit_then_at class.Zero class.Wildcard i h x y w e f = rw (e, f) refl
@@ -73,7 +84,10 @@ module _ (pass : Pass) (may : Bool) (R : LevelReader) (tail : Bool) where
   digit_then_at _ d i h x y w e f = absurd cc
 
   -- the digit's value is the same in both forms
-  digit_name_at : (c b d : Class) → is_digit c ≡ true → is_simple b ≡ true → halts d ≡ true → (x y z : Lexeme) (w : List Lexeme) → x.class ≡ c → y.class ≡ b → z.class ≡ d → other_expr_at pass may R tail (x ∷ y ∷ z ∷ w) ≡ got (app_of x.place (word_of x.class x) (argument Written (name (named_of y)) ∷ [])) (z ∷ w)
+  digit_name_at : (c b d : Class) → is_digit c ≡ true → is_simple b ≡ true → halts d ≡ true →
+      (x y z : Lexeme) (w : List Lexeme) → x.class ≡ c → y.class ≡ b → z.class ≡ d →
+      other_expr_at pass may R tail (x ∷ y ∷ z ∷ w) ≡ got
+      (app_of x.place (word_of x.class x) (argument Written (name (named_of y)) ∷ [])) (z ∷ w)
   unfolding other_expr_at arrow_at app_at other_app_at other_atom_at atoms_at atom_at
   digit_name_at class.Zero class.Small class.Colon i k h x y z w e f g = rw (e, f, g) refl
   digit_name_at class.Zero class.Small class.Wildcard i k h x y z w e f g = rw (e, f, g) refl
@@ -114,7 +128,8 @@ module _ (pass : Pass) (may : Bool) (R : LevelReader) (tail : Bool) where
     digit_name_then = λ x y z w i k h. digit_name_at x.class y.class z.class i k h x y z w refl refl refl;
   }
 
-  not_let : (ls : List Lexeme) → begins (of is_let) ls ≡ false → expr_at pass may R tail ls ≡ other_expr_at pass may R tail ls
+  not_let : (ls : List Lexeme) → begins (of is_let) ls ≡ false →
+      expr_at pass may R tail ls ≡ other_expr_at pass may R tail ls
   unfolding expr_at
   not_let ls e = rw e refl
 
@@ -128,5 +143,6 @@ module _ (pass : Pass) (may : Bool) (R : LevelReader) (tail : Bool) where
         digit_last = λ x i. not_let (x ∷ []) (apart is_let is_digit refl x i) ∙ o.digit_last x i;
         name_then = λ x y w i h. not_let (x ∷ y ∷ w) (apart is_let is_simple refl x i) ∙ o.name_then x y w i h;
         digit_then = λ x y w i h. not_let (x ∷ y ∷ w) (apart is_let is_digit refl x i) ∙ o.digit_then x y w i h;
-        digit_name_then = λ x y z w i k h. not_let (x ∷ y ∷ z ∷ w) (apart is_let is_digit refl x i) ∙ o.digit_name_then x y z w i k h;
+        digit_name_then = λ x y z w i k h. not_let (x ∷ y ∷ z ∷ w) (apart is_let is_digit refl x i) ∙
+            o.digit_name_then x y z w i k h;
       }

@@ -68,9 +68,20 @@ token_number_place kind.RightBrace s t = refl
 token_number_place kind.End s t = refl
 
 -- a token's lexeme with its parts written out
-pub token_parts : (k : TokenKind) (s : Span) (t found : List ℕ) → record { class = (token_lexeme k s t).class; place = s; name = (token_lexeme k s t).name; text = (token_lexeme k s t).text; number = (token_lexeme k s t).number; number_place = s; found = found } ≡ record (token_lexeme k s t) { found = found }
+pub token_parts : (k : TokenKind) (s : Span) (t found : List ℕ) →
+    record {
+      class = (token_lexeme k s t).class;
+      place = s;
+      name = (token_lexeme k s t).name;
+      text = (token_lexeme k s t).text;
+      number = (token_lexeme k s t).number;
+      number_place = s;
+      found =
+          found;
+    } ≡ record (token_lexeme k s t) { found = found }
 token_parts k s t found = rw (token_place k s t, token_number_place k s t) refl
 
 -- the lexemes from a mark or token on, by those behind it
-pub lexemes_step : (ms : List Laid) (i j : ℕ) (x : Laid) → i < length ms → i + 1 ≡ j → x ≡ get_or ms i x → lexemes (drop i ms) ≡ joined (lexeme_of x) (lexemes (drop j ms))
+pub lexemes_step : (ms : List Laid) (i j : ℕ) (x : Laid) → i < length ms → i + 1 ≡ j → x ≡ get_or ms i x →
+    lexemes (drop i ms) ≡ joined (lexeme_of x) (lexemes (drop j ms))
 lexemes_step ms i j x h e f = at_drop_more lexemes ms i x h ∙ rw (sym f, sym e) refl

@@ -14,4 +14,6 @@ pub data HasAnswer (pass : Pass) (ls : List Lexeme) : Type 0 where
   -- tokens that begin texts which all pass this limit first
   is_excess : (e : Excess) → Settles (IsText pass) ls e → ((t : Module) → IsText pass ls t None → ⊥) → HasAnswer pass ls
   -- tokens of which one is the first bad one, or that end too soon, before any limit is passed
-  is_bad : (rest : List Lexeme) → FirstBad (IsText pass) ls rest → ((e : Excess) → Settles (IsText pass) ls e → ⊥) → ((t : Module) (o : Option Excess) → IsText pass ls t o → ⊥) → HasAnswer pass ls
+  is_bad : (rest : List Lexeme) → FirstBad (IsText pass) ls rest →
+      ((e : Excess) → Settles (IsText pass) ls e → ⊥) →
+      ((t : Module) (o : Option Excess) → IsText pass ls t o → ⊥) → HasAnswer pass ls

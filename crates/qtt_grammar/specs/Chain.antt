@@ -14,7 +14,8 @@ use Rattle.qtt_grammar.specs.Grammar.{Says, IsText}
 
 -- the first binder of a chain that is one too many, where so many stand before the chain
 abbrev pub chain_excess : ℕ → Tree → Option Excess
-chain_excess n (pi k m x domain codomain s) = cond (is_full Counts quantity.Parts n) (Some (one_above quantity.Parts s)) (chain_excess (suc n) codomain)
+chain_excess n (pi k m x domain codomain s) =
+    cond (is_full Counts quantity.Parts n) (Some (one_above quantity.Parts s)) (chain_excess (suc n) codomain)
 chain_excess n _ = None
 
 -- the first field that is one too many

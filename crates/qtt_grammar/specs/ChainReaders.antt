@@ -20,7 +20,8 @@ use Rattle.qtt_grammar.specs.Grammar.{of, place, mult_of, start, second}
 use Rattle.qtt_grammar.specs.Readers.{Reads, LevelReader, symbol_at, opener_at, local_at, up_to_at, begins_binder, typed_at, lambda_at, letting_at, doing_at, hole_at, app_at, levels_at, simple_reader, params_at, partial_at, erased_at, defining_at}
 use Rattle.qtt_grammar.specs.Chain.{chain_excess}
 
--- What is one too many if the type ends there: so long as nothing stands behind a bracket, its binders may be the chain's.
+-- What is one too many if the type ends there: so long as nothing stands behind a bracket, its binders may be the
+-- chain's.
 abbrev pub Pending : Type 0
 Pending = Option Excess
 
@@ -45,7 +46,8 @@ behind_binder (x ∷ ls) = cond (of is_digit x) (behind_name ls) (behind_name (x
 -- a binder that is one too many
 abbrev pub extra_binder_at : Bool → Reads Pending
 extra_binder_at may [] = bad unexpected []
-extra_binder_at may (x ∷ ls) = cond may (over (one_above quantity.Parts x.place) (behind_binder ls)) (bad too_deep (x ∷ ls))
+extra_binder_at may (x ∷ ls) =
+    cond may (over (one_above quantity.Parts x.place) (behind_binder ls)) (bad too_deep (x ∷ ls))
 
 -- the chains of a level, where so many binders stand before them
 pub record ChainReader : Type 0 where
@@ -61,19 +63,33 @@ module _ (may : Bool) (inner : LevelReader) (chains : ChainReader) where
 
   -- "->" and what stands behind it, for a binder that stands there
   unfoldable pub codomain_at_place : ℕ → Span → Reads Pending
-  codomain_at_place n s = cond (is_full Counts quantity.Parts n) (cap_at (opens may (of is_arrow)) (λ _. too_deep) (λ _. one_above quantity.Parts s)) (codomain_chain_at n)
+  codomain_at_place n s = cond (is_full Counts quantity.Parts n)
+      (cap_at (opens may (of is_arrow)) (λ _. too_deep) (λ _. one_above quantity.Parts s)) (codomain_chain_at n)
 
   unfoldable pub arrow_chain_at : ℕ → Reads Pending
-  arrow_chain_at n = making_at second (chain_at (placed_at place (app_at Free may inner)) (λ c. perhaps_at (of is_arrow) (chain_excess n c.1) (codomain_at_place n c.0)))
+  arrow_chain_at n = making_at second
+      (chain_at (placed_at place (app_at Free may inner))
+      (λ c. perhaps_at (of is_arrow) (chain_excess n c.1) (codomain_at_place n c.0)))
 
   unfoldable pub binder_chain_at : ℕ → Reads Pending
-  binder_chain_at n = either_at begins_binder (cond (is_full Counts quantity.Parts n) (extra_binder_at may) (pi_chain_at n)) (arrow_chain_at n)
+  binder_chain_at n = either_at begins_binder
+      (cond (is_full Counts quantity.Parts n) (extra_binder_at may) (pi_chain_at n)) (arrow_chain_at n)
 
   unfoldable pub expr_chain_at : ℕ → Reads Pending
-  expr_chain_at n = either_at (begins (of is_let)) (unchained_at (letting_at Free may inner false)) (either_at (begins (of is_hole)) (unchained_at (hole_at Free may inner false)) (either_at (begins (of is_backslash)) (unchained_at (lambda_at Free may inner false)) (either_at (begins (of is_do)) (unchained_at (doing_at Free may inner false)) (binder_chain_at n))))
+  expr_chain_at n = either_at (begins (of is_let)) (unchained_at (letting_at Free may inner false))
+      (either_at (begins (of is_hole)) (unchained_at (hole_at Free may inner false))
+      (either_at (begins (of is_backslash)) (unchained_at (lambda_at Free may inner false))
+      (either_at (begins (of is_do)) (unchained_at (doing_at Free may inner false)) (binder_chain_at n))))
 
   unfoldable pub implicit_chain_at : ℕ → Reads Pending
-  implicit_chain_at n = up_to_at Counts quantity.Parts (opens may (of is_left_brace)) (λ _. too_deep) (making_at behind_type (then_at (opener_at may is_left_brace) (then_at (token_at (λ _. None) (of is_zero) (λ x. mult_of x.class)) (then_at (local_at is_simple) (then_at (symbol_at is_colon) (then_at (inner.expr false) (then_at (symbol_at is_right_brace) (then_at (opener_at may is_arrow) (chains.typing (suc n)))))))))) n
+  implicit_chain_at n = up_to_at Counts quantity.Parts (opens may (of is_left_brace)) (λ _. too_deep)
+      (making_at behind_type
+      (then_at (opener_at may is_left_brace)
+      (then_at (token_at (λ _. None) (of is_zero) (λ x. mult_of x.class))
+      (then_at (local_at is_simple)
+      (then_at (symbol_at is_colon)
+      (then_at (inner.expr false)
+      (then_at (symbol_at is_right_brace) (then_at (opener_at may is_arrow) (chains.typing (suc n)))))))))) n
 
   unfoldable pub typing_chain_at : ℕ → Reads Pending
   typing_chain_at n = either_at (begins (of is_left_brace)) (implicit_chain_at n) (expr_chain_at n)
@@ -82,7 +98,10 @@ module _ (may : Bool) (inner : LevelReader) (chains : ChainReader) where
   chain_level_at = record { expr = expr_chain_at; typing = typing_chain_at }
 
 abbrev pub simple_chain : ChainReader
-simple_chain = record { expr = λ n. unchained_at (simple_reader.expr false); typing = λ n. unchained_at simple_reader.typing }
+simple_chain = record {
+  expr = λ n. unchained_at (simple_reader.expr false);
+  typing = λ n. unchained_at simple_reader.typing;
+}
 
 unfoldable pub chains_at : ℕ → ChainReader
 chains_at zero = chain_level_at false simple_reader simple_chain
@@ -106,23 +125,44 @@ ignored _ = tt
 module _ (top inner : LevelReader) (chains : ChainReader) where
   -- a constructor and the token behind it: whether it is the last one
   unfoldable pub con_chain_at : Reads Bool
-  con_chain_at = making_at second (then_at (local_at is_big) (making_at second (then_at (symbol_at is_colon) (settled_at (of ends_con) (of is_close) (chains.typing 0)))))
+  con_chain_at = making_at second
+      (then_at (local_at is_big)
+      (making_at second (then_at (symbol_at is_colon)
+      (settled_at (of ends_con) (of is_close) (chains.typing 0)))))
 
   unfoldable pub cons_chain_at : Reads (Unit {0})
-  cons_chain_at = either_at (begins (of is_close)) (making_at ignored (symbol_at is_close)) (making_at ignored (all_at (λ b. b) not (λ _ b. b) (λ _. of is_big) (λ _. con_chain_at) false))
+  cons_chain_at = either_at (begins (of is_close)) (making_at ignored (symbol_at is_close))
+      (making_at ignored (all_at (λ b. b) not (λ _ b. b) (λ _. of is_big) (λ _. con_chain_at) false))
 
   unfoldable pub family_chain_at : Reads (Unit {0})
-  family_chain_at = making_at ignored (then_at (symbol_at is_data) (then_at (local_at is_big) (then_at (params_at Free top inner 0) (then_at (symbol_at is_colon) (then_at (settled_at (of is_where) place (chains.expr 0)) (then_at (symbol_at is_open) cons_chain_at))))))
+  family_chain_at = making_at ignored
+      (then_at (symbol_at is_data)
+      (then_at (local_at is_big)
+      (then_at (params_at Free top inner 0)
+      (then_at (symbol_at is_colon)
+      (then_at (settled_at (of is_where) place (chains.expr 0)) (then_at (symbol_at is_open) cons_chain_at))))))
 
   unfoldable pub item_chain_at : Reads (Unit {0})
-  item_chain_at = either_at (begins (of is_data)) family_chain_at (either_at (begins (of is_partial)) (making_at ignored (partial_at Free top inner)) (either_at (begins (of is_zero)) (making_at ignored (erased_at Free top inner)) (making_at ignored (defining_at Free top inner start))))
+  item_chain_at = either_at (begins (of is_data)) family_chain_at
+      (either_at (begins (of is_partial)) (making_at ignored (partial_at Free top inner))
+      (either_at (begins (of is_zero)) (making_at ignored (erased_at Free top inner))
+      (making_at ignored (defining_at Free top inner start))))
 
   -- an import or an item, where imports may stand or not: whether they may still
   unfoldable pub entry_chain_at : Bool → Reads Bool
-  entry_chain_at b = making_at second (then_at (symbol_at is_next) (either_at (begins (of is_import)) (making_at (λ _. b) (then_at (token_at (λ _. None) (opens b (of is_import)) place) (local_at is_name))) (making_at (λ _. false) item_chain_at)))
+  entry_chain_at b = making_at second
+      (then_at (symbol_at is_next)
+      (either_at (begins (of is_import))
+      (making_at (λ _. b) (then_at (token_at (λ _. None) (opens b (of is_import)) place) (local_at is_name)))
+      (making_at (λ _. false) item_chain_at)))
 
   unfoldable pub module_chain_at : Reads (Unit {0})
-  module_chain_at = making_at ignored (then_at (symbol_at is_open) (then_at (symbol_at is_module) (then_at (local_at is_name) (then_at (making_at ignored (counted_at (λ _ b. b) (of is_next) entry_chain_at true)) (symbol_at is_close)))))
+  module_chain_at = making_at ignored
+      (then_at (symbol_at is_open)
+      (then_at (symbol_at is_module)
+      (then_at (local_at is_name)
+      (then_at (making_at ignored (counted_at (λ _ b. b) (of is_next) entry_chain_at true))
+      (symbol_at is_close)))))
 
 unfoldable pub text_chain_at : Reads (Unit {0})
 text_chain_at = module_chain_at (levels_at Free 200) (levels_at Free 199) (chains_at 200)

@@ -25,7 +25,8 @@ chained_within reader n = reader (levels_at Free n) (below Free n) (chains_at n)
 
 -- at most so many constructors up to the end of their block
 abbrev pub cons_from : ℕ → ℕ → Reads (Unit {0})
-cons_from left n = making_at ignored (run_at (λ b. b) not (λ _ b. b) (λ _. of is_big) (λ _. chained_within con_chain_at left) n false)
+cons_from left n = making_at ignored
+    (run_at (λ b. b) not (λ _ b. b) (λ _. of is_big) (λ _. chained_within con_chain_at left) n false)
 
 -- what begins an expression in which no binder of a chain stands
 abbrev pub starts_form : Class → Bool

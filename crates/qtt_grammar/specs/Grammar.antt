@@ -255,7 +255,8 @@ pub record Level : Type 1 where
 module _ (pass : Pass) (may : Bool) (inner : Level) where
   -- "(" [mark] bname ":" expr ")"
   abbrev pub Typed : Says Binder
-  Typed = Making typed_of (Opening may is_left_paren then IsMark then Locally is_bname then Symbol is_colon then inner.expr false then Symbol is_right_paren)
+  Typed = Making typed_of (Opening may is_left_paren then IsMark then Locally is_bname then Symbol is_colon
+      then inner.expr false then Symbol is_right_paren)
 
   -- lbind = bname | "(" [mark] bname ":" expr ")"
   abbrev pub IsBinder : Says Binder
@@ -263,7 +264,8 @@ module _ (pass : Pass) (may : Bool) (inner : Level) where
 
   -- "\" lbind+ "=>" expr, where the bracket of an lbind opens a level inside that of the "\"
   abbrev pub Lambda : Bool → Says Tree
-  Lambda tail = Making lambda_of (Opening may is_backslash then Some_of inner.binder then Symbol is_fat_arrow then inner.expr tail)
+  Lambda tail = Making lambda_of
+      (Opening may is_backslash then Some_of inner.binder then Symbol is_fat_arrow then inner.expr tail)
 
   -- [":" expr]
   abbrev pub IsAnnotation : Says Annotation
@@ -271,7 +273,9 @@ module _ (pass : Pass) (may : Bool) (inner : Level) where
 
   -- "let" [mark] bname [":" expr] "=" expr
   abbrev pub LetHead : Says LetParts
-  LetHead = Making let_parts (Opening may is_let then IsMark then Locally is_bname then IsAnnotation then Symbol is_equals then inner.expr false)
+  LetHead = Making let_parts
+      (Opening may is_let then IsMark then Locally is_bname then IsAnnotation then Symbol is_equals
+      then inner.expr false)
 
   -- "let" [mark] bname [":" expr] "=" expr "in" expr
   abbrev pub Letting : Bool → Says Tree
@@ -279,7 +283,8 @@ module _ (pass : Pass) (may : Bool) (inner : Level) where
 
   -- (Next stmt)*
   abbrev pub Lines : Bool → Line → Says (List Statement)
-  Lines tail = Run may_end may_go next_line (λ l. Making next_of (Symbol is_next then Up_to pass quantity.Statements l.0 (inner.statement tail)))
+  Lines tail = Run may_end may_go next_line
+      (λ l. Making next_of (Symbol is_next then Up_to pass quantity.Statements l.0 (inner.statement tail)))
 
   -- stmt (Next stmt)*
   abbrev pub Block : Bool → Says (Statement × List Statement)
@@ -327,7 +332,8 @@ module _ (pass : Pass) (may : Bool) (inner : Level) where
 
   -- app ["->" expr]
   abbrev pub Arrow : Says Tree
-  Arrow = Making arrow_of (Placed place IsApp then Perhaps None (Making behind_of (Opening may is_arrow then inner.expr false)))
+  Arrow = Making arrow_of (Placed place IsApp then Perhaps None
+      (Making behind_of (Opening may is_arrow then inner.expr false)))
 
   -- "(" [mark] bname ":" expr ")" "->" expr
   abbrev pub Pi : Says Tree
@@ -347,7 +353,8 @@ module _ (pass : Pass) (may : Bool) (inner : Level) where
 
   -- "let" [mark] bname [":" expr] "=" expr, or with "in" expr behind it, an expression
   abbrev pub LetStatement : Bool → Says Statement
-  LetStatement tail = Making let_statement_of (LetHead then Perhaps None (Making after_in (Symbol is_in then inner.expr tail)))
+  LetStatement tail = Making let_statement_of
+      (LetHead then Perhaps None (Making after_in (Symbol is_in then inner.expr tail)))
 
   -- bname "<-" expr
   abbrev pub Binding : Says Statement
@@ -359,7 +366,9 @@ module _ (pass : Pass) (may : Bool) (inner : Level) where
 
   -- impl = "{" "0" SIMPLE ":" expr "}" "->", and what stands behind it
   abbrev pub Implicit : Says Tree
-  Implicit = Making implicit_of (Opening may is_left_brace then Token (of is_zero) (λ x. mult_of x.class) then Locally is_simple then Symbol is_colon then inner.expr false then Symbol is_right_brace then Opening may is_arrow then inner.typing)
+  Implicit = Making implicit_of
+      (Opening may is_left_brace then Token (of is_zero) (λ x. mult_of x.class) then Locally is_simple then Symbol
+      is_colon then inner.expr false then Symbol is_right_brace then Opening may is_arrow then inner.typing)
 
   -- impl* expr
   abbrev pub IsTyping : Says Tree
@@ -367,7 +376,8 @@ module _ (pass : Pass) (may : Bool) (inner : Level) where
 
   -- BIGQ pat*, or another pattern
   abbrev pub Inside : Says (Span → Shape)
-  Inside = Making group_of (Token (of is_constructor) named_of then Counted pass quantity.Parts 0 inner.pattern) or Making nested_of inner.other_pattern
+  Inside = Making group_of (Token (of is_constructor) named_of then Counted pass quantity.Parts 0 inner.pattern)
+      or Making nested_of inner.other_pattern
 
   -- "(" BIGQ pat+ ")" | "(" pat ")"
   abbrev pub Bracketed : Says Shape
@@ -386,7 +396,14 @@ module _ (pass : Pass) (may : Bool) (inner : Level) where
   IsPattern = Making bare_of (Token (of is_constructor) named_of) or OtherPattern
 
   abbrev pub Shape_of : Level
-  Shape_of = record { expr = IsExpr; statement = IsStatement; typing = IsTyping; binder = IsBinder; pattern = IsPattern; other_pattern = OtherPattern }
+  Shape_of = record {
+    expr = IsExpr;
+    statement = IsStatement;
+    typing = IsTyping;
+    binder = IsBinder;
+    pattern = IsPattern;
+    other_pattern = OtherPattern;
+  }
 
 abbrev pub Simple_level : Level
 Simple_level = record {
@@ -428,9 +445,12 @@ clauses_before at n = cond (same_name at.clauses_of n) at.clauses 0
 
 abbrev pub next_place : Place → Entry → Place
 next_place at (imported i) = at
-next_place at (listed (family n ns ps t cs s)) = record { at_imports = false; items = suc at.items; clauses_of = []; clauses = 0 }
-next_place at (listed (signature p m n ns t s)) = record { at_imports = false; items = suc at.items; clauses_of = []; clauses = 0 }
-next_place at (listed (clause n ps side s)) = record { at_imports = false; items = suc at.items; clauses_of = n; clauses = suc (clauses_before at n) }
+next_place at (listed (family n ns ps t cs s)) =
+    record { at_imports = false; items = suc at.items; clauses_of = []; clauses = 0 }
+next_place at (listed (signature p m n ns t s)) =
+    record { at_imports = false; items = suc at.items; clauses_of = []; clauses = 0 }
+next_place at (listed (clause n ps side s)) =
+    record { at_imports = false; items = suc at.items; clauses_of = n; clauses = suc (clauses_before at n) }
 
 abbrev pub param_of : Span × (Mult × (Local × (Span × (Tree × Span)))) → Param
 param_of (s, (m, (n, (_, (t, _))))) = param m n.name t s
@@ -482,7 +502,9 @@ module_of (_, (s, (n, (entries, _)))) = module_text s n.name n.span (imports_of 
 module _ (pass : Pass) (top inner : Level) where
   -- param = "(" ["0"] SIMPLE ":" expr ")"
   abbrev pub IsParam : Says Param
-  IsParam = Making param_of (Opening true is_left_paren then IsZero then Locally is_simple then Symbol is_colon then inner.expr false then Symbol is_right_paren)
+  IsParam = Making param_of
+      (Opening true is_left_paren then IsZero then Locally is_simple then Symbol is_colon then inner.expr false
+      then Symbol is_right_paren)
 
   -- con = BIG ":" impl* expr
   abbrev pub IsCon : Says Con
@@ -490,15 +512,21 @@ module _ (pass : Pass) (top inner : Level) where
 
   -- [con (Next con)*]
   abbrev pub Cons : Says (List Con)
-  Cons = Perhaps [] (Making cons_of (IsCon then Run (λ _. true) (λ _. true) (λ n _. suc n) (λ n. Making next_con_of (Symbol is_next then Up_to pass quantity.Constructors n IsCon)) 1))
+  Cons = Perhaps [] (Making cons_of
+      (IsCon then Run (λ _. true) (λ _. true) (λ n _. suc n)
+      (λ n. Making next_con_of (Symbol is_next then Up_to pass quantity.Constructors n IsCon)) 1))
 
   -- "data" BIG param* ":" expr "where" Open [con (Next con)*] Close
   abbrev pub IsFamily : Says Item
-  IsFamily = Making family_of (Symbol is_data then Locally is_big then Counted pass quantity.Parts 0 IsParam then Symbol is_colon then top.expr false then Symbol is_where then Symbol is_open then Cons then Symbol is_close)
+  IsFamily = Making family_of
+      (Symbol is_data then Locally is_big then Counted pass quantity.Parts 0 IsParam then Symbol is_colon
+      then top.expr false then Symbol is_where then Symbol is_open then Cons then Symbol is_close)
 
   -- "partial" [Next] ["0"] SIMPLE ":" impl* expr
   abbrev pub Partial : Says Item
-  Partial = Making partial_of (Symbol is_partial then Perhaps None (Making Some (Symbol is_next)) then IsZero then Locally is_simple then Symbol is_colon then top.typing)
+  Partial = Making partial_of
+      (Symbol is_partial then Perhaps None (Making Some (Symbol is_next)) then IsZero then Locally is_simple
+      then Symbol is_colon then top.typing)
 
   -- "0" SIMPLE ":" impl* expr
   abbrev pub Erased : Says Item
@@ -514,7 +542,8 @@ module _ (pass : Pass) (top inner : Level) where
 
   -- the same, where so many clauses of the name stand directly before; one above the limit is told at the name
   abbrev pub Clause : Place → Local → Says Item
-  Clause at n = cond (is_full pass quantity.Clauses (clauses_before at n.name)) (Above (λ _. one_above quantity.Clauses n.span) (Equation n)) (Equation n)
+  Clause at n = cond (is_full pass quantity.Clauses (clauses_before at n.name))
+      (Above (λ _. one_above quantity.Clauses n.span) (Equation n)) (Equation n)
 
   -- SIMPLE ":" impl* expr | SIMPLE pat* "=" expr
   abbrev pub Defining : Place → Says Item
@@ -530,11 +559,14 @@ module _ (pass : Pass) (top inner : Level) where
 
   -- Next import | Next item
   abbrev pub IsEntry : Place → Says Entry
-  IsEntry at = Making second (Symbol is_next then (IsImport at or Making listed (Up_to pass quantity.Items at.items (IsItem at))))
+  IsEntry at = Making second
+      (Symbol is_next then (IsImport at or Making listed (Up_to pass quantity.Items at.items (IsItem at))))
 
   -- module = Open "module" NAME (Next import)* (Next item)* Close
   abbrev pub IsModule : Says Module
-  IsModule = Making module_of (Symbol is_open then Symbol is_module then Locally is_name then Run (λ _. true) (λ _. true) next_place IsEntry start then Symbol is_close)
+  IsModule = Making module_of
+      (Symbol is_open then Symbol is_module then Locally is_name then Run (λ _. true)
+      (λ _. true) next_place IsEntry start then Symbol is_close)
 
 -- a module's text
 unfoldable pub IsText : Pass → Says Module

@@ -18,7 +18,8 @@ abbrev pub word : Class → Span → List ℕ → Lexeme
 word c s name = record { class = c; place = s; name = name; text = []; number = pos 0; number_place = s; found = [] }
 
 abbrev pub name_class : List ℕ → Class
-name_class name = cond (is_simple name) (cond (is_big name) class.Big class.Small) (cond (is_big name) class.BigPath class.SmallPath)
+name_class name = cond (is_simple name) (cond (is_big name) class.Big class.Small)
+    (cond (is_big name) class.BigPath class.SmallPath)
 
 abbrev pub sign_class : ℤ → Class
 sign_class (pos n) = class.Natural
@@ -30,11 +31,27 @@ number_class (b ∷ []) z = cond (b == 48) class.Zero (cond (b == 49) class.One 
 number_class _ z = sign_class z
 
 abbrev pub text_lexeme : Span → List ℕ → Lexeme
-text_lexeme s value = record { class = class.Text; place = s; name = []; text = value; number = pos 0; number_place = s; found = [] }
+text_lexeme s value = record {
+  class = class.Text;
+  place = s;
+  name = [];
+  text = value;
+  number = pos 0;
+  number_place = s;
+  found = [];
+}
 
 -- `Type` with a number
 abbrev pub type_lexeme : Span → ℕ → Span → Lexeme
-type_lexeme s n ns = record { class = class.Universe; place = s; name = []; text = []; number = pos n; number_place = ns; found = [] }
+type_lexeme s n ns = record {
+  class = class.Universe;
+  place = s;
+  name = [];
+  text = [];
+  number = pos n;
+  number_place = ns;
+  found = [];
+}
 
 -- a token's form, at its place and as it is spelled
 abbrev pub token_lexeme : TokenKind → Span → List ℕ → Lexeme
@@ -50,7 +67,8 @@ token_lexeme kind.The s t = sign class.The s
 token_lexeme kind.Type s t = sign class.Universe s
 token_lexeme (kind.Name n) s t = word (name_class n) s n
 token_lexeme kind.Wildcard s t = word class.Wildcard s (codes "_")
-token_lexeme (kind.Number z) s t = record { class = number_class t z; place = s; name = []; text = []; number = z; number_place = s; found = [] }
+token_lexeme (kind.Number z) s t =
+    record { class = number_class t z; place = s; name = []; text = []; number = z; number_place = s; found = [] }
 token_lexeme (kind.Text v) s t = text_lexeme s v
 token_lexeme (kind.Hole n) s t = word class.Hole s n
 token_lexeme kind.LeftParen s t = sign class.LeftParen s

@@ -7,9 +7,6 @@ pub mod View
 pub mod Answer
 pub mod Parsed
 pub mod Examples
-pub mod Sketch
-pub mod Unplaced
-pub mod Spelled
 pub mod Chain
 pub mod ChainReaders
 pub mod Outcome

@@ -29,8 +29,12 @@ number_of (negsuc n) = 0
 
 -- a text's bytes, and the number after `Type`, which is kept as it is written
 abbrev pub word_excess : Pass → Class → Lexeme → Option Excess
-word_excess pass class.Text x = cond (counts pass && nat_lt (limit_of standard LiteralBytes) (length x.text)) (Some (one_above LiteralBytes x.place)) None
-word_excess pass class.Universe x = cond (counts pass && nat_lt (limit_of standard TypeNumber) (number_of x.number)) (Some (record { quantity = TypeNumber; count = number_of x.number; place = x.number_place })) None
+word_excess pass class.Text x =
+    cond (counts pass && nat_lt (limit_of standard LiteralBytes) (length x.text))
+    (Some (one_above LiteralBytes x.place)) None
+word_excess pass class.Universe x =
+    cond (counts pass && nat_lt (limit_of standard TypeNumber) (number_of x.number))
+    (Some (record { quantity = TypeNumber; count = number_of x.number; place = x.number_place })) None
 word_excess pass _ x = None
 
 abbrev pub excess_of : Pass → Lexeme → Option Excess

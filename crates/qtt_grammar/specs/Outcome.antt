@@ -36,5 +36,9 @@ Never P = (e : Excess) → P e → ⊥
 -- earlier, and at one place the index or field.
 abbrev pub HasOutcome : List Lexeme → Outcome → Type 0
 HasOutcome ls (tree t) = IsText Counts ls t None × Never (Exceeds ls)
-HasOutcome ls (passed e) = (Passes ls e × ((f : Excess) → Exceeds ls f → is_before e.place f.place ≡ true)) ⊎ (Exceeds ls e × ((f : Excess) → Passes ls f → is_before f.place e.place ≡ false))
-HasOutcome ls (stopped rest) = FirstBad (IsText Counts) ls rest × Never (Passes ls) × Never (Exceeds ls) × ((t : Module) (o : Option Excess) → IsText Counts ls t o → ⊥)
+HasOutcome ls (passed e) =
+    (Passes ls e × ((f : Excess) → Exceeds ls f → is_before e.place f.place ≡ true)) ⊎
+    (Exceeds ls e × ((f : Excess) → Passes ls f → is_before f.place e.place ≡ false))
+HasOutcome ls (stopped rest) =
+    FirstBad (IsText Counts) ls rest × Never (Passes ls) × Never (Exceeds ls) ×
+    ((t : Module) (o : Option Excess) → IsText Counts ls t o → ⊥)

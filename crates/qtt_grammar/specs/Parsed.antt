@@ -71,10 +71,13 @@ Gives (Err e) outcome = Refuses e outcome
 unfoldable pub IsDeeperText : Says Module
 IsDeeperText = IsModule Counts (levels Counts 201) (levels Counts 200)
 
--- Why the first token behind a front is bad: it opens one level too many where some text goes on with it if one more level may open.
+-- Why the first token behind a front is bad: it opens one level too many where some text goes on with it if one
+-- more level may open.
 abbrev pub HasKind : Kind → List Lexeme → List Lexeme → Type 0
-HasKind too_deep front rest = (x : Lexeme) × (r : List Lexeme) × (rest ≡ x ∷ r) × BeginsSome IsDeeperText (front ++ x ∷ [])
-HasKind unexpected front rest = (x : Lexeme) (r : List Lexeme) → rest ≡ x ∷ r → BeginsSome IsDeeperText (front ++ x ∷ []) → ⊥
+HasKind too_deep front rest =
+    (x : Lexeme) × (r : List Lexeme) × (rest ≡ x ∷ r) × BeginsSome IsDeeperText (front ++ x ∷ [])
+HasKind unexpected front rest =
+    (x : Lexeme) (r : List Lexeme) → rest ≡ x ∷ r → BeginsSome IsDeeperText (front ++ x ∷ []) → ⊥
 
 -- no limit is passed before any bad token
 abbrev pub IsWithin : List Lexeme → Type 0
@@ -83,7 +86,8 @@ IsWithin ls = Never (Passes ls) × Never (Exceeds ls)
 -- Why lexemes are refused: a limit that is passed first, or the first bad one.
 pub data IsFault (ls : List Lexeme) (m : Mistake) : Type 0 where
   passes_limit : (e : Excess) → HasOutcome ls (passed e) → m ≡ above e → IsFault ls m
-  has_bad_token : (kind : Kind) (rest : List Lexeme) (d : FirstBad (IsText Counts) ls rest) → HasKind kind d.front rest → IsWithin ls → m ≡ bad_token kind rest → IsFault ls m
+  has_bad_token : (kind : Kind) (rest : List Lexeme) (d : FirstBad (IsText Counts) ls rest) →
+      HasKind kind d.front rest → IsWithin ls → m ≡ bad_token kind rest → IsFault ls m
 
 -- the error is want of memory, or keeps a fault of these
 abbrev pub KeepsFault : List Lexeme → GrammarError → Type 0

@@ -119,25 +119,38 @@ one_pattern_at pass level = up_to_at pass quantity.Parts level.starts_pattern le
 
 module _ (pass : Pass) (may : Bool) (inner : LevelReader) where
   unfoldable pub typed_at : Reads Binder
-  typed_at = making_at typed_of (then_at (opener_at may is_left_paren) (then_at mark_at (then_at (local_at is_bname) (then_at (symbol_at is_colon) (then_at (inner.expr false) (symbol_at is_right_paren))))))
+  typed_at = making_at typed_of
+      (then_at (opener_at may is_left_paren)
+      (then_at mark_at (then_at (local_at is_bname)
+      (then_at (symbol_at is_colon) (then_at (inner.expr false) (symbol_at is_right_paren))))))
 
   unfoldable pub binder_at : Reads Binder
   binder_at = either_at (begins (of is_bname)) (making_at plain (local_at is_bname)) typed_at
 
   unfoldable pub lambda_at : Bool → Reads Tree
-  lambda_at tail = making_at lambda_of (then_at (opener_at may is_backslash) (then_at (then_at inner.binder (many_at (of starts_binder) inner.binder)) (then_at (symbol_at is_fat_arrow) (inner.expr tail))))
+  lambda_at tail = making_at lambda_of
+      (then_at (opener_at may is_backslash)
+      (then_at (then_at inner.binder (many_at (of starts_binder) inner.binder))
+      (then_at (symbol_at is_fat_arrow) (inner.expr tail))))
 
   unfoldable pub annotation_at : Reads Annotation
-  annotation_at = perhaps_at (of is_colon) untyped (making_at annotation_of (then_at (symbol_at is_colon) (inner.expr false)))
+  annotation_at = perhaps_at (of is_colon) untyped
+      (making_at annotation_of (then_at (symbol_at is_colon) (inner.expr false)))
 
   unfoldable pub let_head_at : Reads LetParts
-  let_head_at = making_at let_parts (then_at (opener_at may is_let) (then_at mark_at (then_at (local_at is_bname) (then_at annotation_at (then_at (symbol_at is_equals) (inner.expr false))))))
+  let_head_at = making_at let_parts
+      (then_at (opener_at may is_let)
+      (then_at mark_at (then_at (local_at is_bname)
+      (then_at annotation_at (then_at (symbol_at is_equals) (inner.expr false))))))
 
   unfoldable pub letting_at : Bool → Reads Tree
   letting_at tail = making_at let_of (then_at let_head_at (then_at (symbol_at is_in) (inner.expr tail)))
 
   unfoldable pub line_at : Bool → Line → Reads Statement
-  line_at tail l = making_at next_of (then_at (symbol_at is_next) (up_to_at pass quantity.Statements (inner.starts_statement tail) inner.bad_statement (inner.statement tail) l.0))
+  line_at tail l = making_at next_of
+      (then_at (symbol_at is_next)
+      (up_to_at pass quantity.Statements (inner.starts_statement tail) inner.bad_statement
+      (inner.statement tail) l.0))
 
   unfoldable pub lines_at : Bool → Line → Reads (List Statement)
   lines_at tail = all_at may_end may_go next_line (λ _. of is_next) (line_at tail)
@@ -146,13 +159,16 @@ module _ (pass : Pass) (may : Bool) (inner : LevelReader) where
   block_at tail = chain_at (inner.statement tail) (λ s. lines_at tail (1, standing_of s))
 
   unfoldable pub doing_at : Bool → Reads Tree
-  doing_at tail = making_at do_of (then_at (opener_at may is_do) (then_at (symbol_at is_open) (then_at (block_at tail) (symbol_at is_close))))
+  doing_at tail = making_at do_of
+      (then_at (opener_at may is_do) (then_at (symbol_at is_open) (then_at (block_at tail) (symbol_at is_close))))
 
   unfoldable pub bracket_at : Reads Tree
-  bracket_at = making_at bracket_of (then_at (opener_at may is_left_paren) (then_at (inner.expr false) (symbol_at is_right_paren)))
+  bracket_at = making_at bracket_of
+      (then_at (opener_at may is_left_paren) (then_at (inner.expr false) (symbol_at is_right_paren)))
 
   unfoldable pub other_atom_at : Reads Tree
-  other_atom_at = either_at (begins (of is_word)) (token_at (excess_of pass) (of is_word) (λ x. word_of x.class x)) bracket_at
+  other_atom_at = either_at (begins (of is_word))
+      (token_at (excess_of pass) (of is_word) (λ x. word_of x.class x)) bracket_at
 
   unfoldable pub atom_at : Reads Tree
   atom_at = either_at (begins (of is_name)) (making_at name (token_at (λ _. None) (of is_name) named_of)) other_atom_at
@@ -161,13 +177,16 @@ module _ (pass : Pass) (may : Bool) (inner : LevelReader) where
   atoms_at = many_at (of starts_atom) (making_at written_of atom_at)
 
   unfoldable pub brace_at : Reads tree.Argument
-  brace_at = making_at braced_of (then_at (opener_at may is_left_brace) (then_at (inner.expr false) (symbol_at is_right_brace)))
+  brace_at = making_at braced_of
+      (then_at (opener_at may is_left_brace) (then_at (inner.expr false) (symbol_at is_right_brace)))
 
   unfoldable pub the_at : Reads Tree
   the_at = making_at the_of (then_at (symbol_at is_the) (then_at atom_at atom_at))
 
   unfoldable pub named_app_at : Reads Tree
-  named_app_at = making_at named_app_of (then_at (token_at (λ _. None) (of is_name) named_of) (then_at (many_at (of is_left_brace) brace_at) atoms_at))
+  named_app_at = making_at named_app_of
+      (then_at (token_at (λ _. None) (of is_name) named_of)
+      (then_at (many_at (of is_left_brace) brace_at) atoms_at))
 
   unfoldable pub other_app_at : Reads Tree
   other_app_at = making_at other_app_of (placed_at place (then_at other_atom_at atoms_at))
@@ -176,7 +195,8 @@ module _ (pass : Pass) (may : Bool) (inner : LevelReader) where
   app_at = either_at (begins (of is_the)) the_at (either_at (begins (of is_name)) named_app_at other_app_at)
 
   abbrev pub codomain_at : Reads (Option Tree)
-  codomain_at = perhaps_at (of is_arrow) None (making_at behind_of (then_at (opener_at may is_arrow) (inner.expr false)))
+  codomain_at = perhaps_at (of is_arrow) None
+      (making_at behind_of (then_at (opener_at may is_arrow) (inner.expr false)))
 
   unfoldable pub arrow_at : Reads Tree
   arrow_at = making_at arrow_of (then_at (placed_at place app_at) codomain_at)
@@ -188,7 +208,9 @@ module _ (pass : Pass) (may : Bool) (inner : LevelReader) where
   hole_at tail = token_at (λ _. None) (opens tail (of is_hole)) (λ x. hole x.name x.place)
 
   unfoldable pub other_expr_at : Bool → Reads Tree
-  other_expr_at tail = either_at (begins (of is_hole)) (hole_at tail) (either_at (begins (of is_backslash)) (lambda_at tail) (either_at (begins (of is_do)) (doing_at tail) (either_at begins_binder pi_at arrow_at)))
+  other_expr_at tail = either_at (begins (of is_hole)) (hole_at tail)
+      (either_at (begins (of is_backslash)) (lambda_at tail)
+      (either_at (begins (of is_do)) (doing_at tail) (either_at begins_binder pi_at arrow_at)))
 
   unfoldable pub expr_at : Bool → Reads Tree
   expr_at tail = either_at (begins (of is_let)) (letting_at tail) (other_expr_at tail)
@@ -203,10 +225,17 @@ module _ (pass : Pass) (may : Bool) (inner : LevelReader) where
   binding_at = making_at bind_of (then_at (local_at is_bname) (then_at (symbol_at is_left_arrow) (expr_at false)))
 
   unfoldable pub statement_at : Bool → Reads Statement
-  statement_at tail = either_at (begins (of is_let)) (let_statement_at tail) (either_at begins_bind binding_at (making_at run_of (placed_at place (other_expr_at tail))))
+  statement_at tail = either_at (begins (of is_let)) (let_statement_at tail)
+      (either_at begins_bind binding_at (making_at run_of (placed_at place (other_expr_at tail))))
 
   unfoldable pub implicit_at : Reads Tree
-  implicit_at = making_at implicit_of (then_at (opener_at may is_left_brace) (then_at (token_at (λ _. None) (of is_zero) (λ x. mult_of x.class)) (then_at (local_at is_simple) (then_at (symbol_at is_colon) (then_at (inner.expr false) (then_at (symbol_at is_right_brace) (then_at (opener_at may is_arrow) inner.typing)))))))
+  implicit_at = making_at implicit_of
+      (then_at (opener_at may is_left_brace)
+      (then_at (token_at (λ _. None) (of is_zero) (λ x. mult_of x.class))
+      (then_at (local_at is_simple)
+      (then_at (symbol_at is_colon)
+      (then_at (inner.expr false)
+      (then_at (symbol_at is_right_brace) (then_at (opener_at may is_arrow) inner.typing)))))))
 
   unfoldable pub typing_at : Reads Tree
   typing_at = either_at (begins (of is_left_brace)) implicit_at (expr_at false)
@@ -215,19 +244,26 @@ module _ (pass : Pass) (may : Bool) (inner : LevelReader) where
   patterns_at = counted_at (λ n _. suc n) (of starts_pattern) (one_pattern_at pass inner)
 
   unfoldable pub inside_at : Reads (Span → Shape)
-  inside_at = either_at (begins (of is_constructor)) (making_at group_of (then_at (token_at (λ _. None) (of is_constructor) named_of) (patterns_at 0))) (making_at nested_of inner.other_pattern)
+  inside_at = either_at (begins (of is_constructor))
+      (making_at group_of (then_at (token_at (λ _. None) (of is_constructor) named_of) (patterns_at 0)))
+      (making_at nested_of inner.other_pattern)
 
   unfoldable pub bracketed_at : Reads Shape
-  bracketed_at = making_at bracketed_of (then_at (opener_at may is_left_paren) (then_at inside_at (symbol_at is_right_paren)))
+  bracketed_at = making_at bracketed_of
+      (then_at (opener_at may is_left_paren) (then_at inside_at (symbol_at is_right_paren)))
 
   unfoldable pub dot_at : Reads Shape
-  dot_at = making_at dot_of (then_at (opener_at may is_dot_paren) (then_at (inner.expr false) (symbol_at is_right_paren)))
+  dot_at = making_at dot_of
+      (then_at (opener_at may is_dot_paren) (then_at (inner.expr false) (symbol_at is_right_paren)))
 
   unfoldable pub other_pattern_at : Reads Shape
-  other_pattern_at = either_at (begins (of is_pattern_word)) (token_at (λ _. None) (of is_pattern_word) (λ x. pattern_word x.class x)) (either_at (begins (of is_dot_paren)) dot_at bracketed_at)
+  other_pattern_at = either_at (begins (of is_pattern_word))
+      (token_at (λ _. None) (of is_pattern_word) (λ x. pattern_word x.class x))
+      (either_at (begins (of is_dot_paren)) dot_at bracketed_at)
 
   unfoldable pub pattern_at : Reads Shape
-  pattern_at = either_at (begins (of is_constructor)) (making_at bare_of (token_at (λ _. None) (of is_constructor) named_of)) other_pattern_at
+  pattern_at = either_at (begins (of is_constructor))
+      (making_at bare_of (token_at (λ _. None) (of is_constructor) named_of)) other_pattern_at
 
   abbrev pub level_at : LevelReader
   level_at = record {
@@ -269,16 +305,21 @@ starts_equation c = starts_pattern c
 
 module _ (pass : Pass) (top inner : LevelReader) where
   unfoldable pub param_at : Reads Param
-  param_at = making_at param_of (then_at (opener_at true is_left_paren) (then_at zero_at (then_at (local_at is_simple) (then_at (symbol_at is_colon) (then_at (inner.expr false) (symbol_at is_right_paren))))))
+  param_at = making_at param_of
+      (then_at (opener_at true is_left_paren)
+      (then_at zero_at (then_at (local_at is_simple)
+      (then_at (symbol_at is_colon) (then_at (inner.expr false) (symbol_at is_right_paren))))))
 
   unfoldable pub params_at : ℕ → Reads (List Param)
-  params_at = counted_at (λ n _. suc n) (of is_left_paren) (up_to_at pass quantity.Parts (of is_left_paren) (λ _. unexpected) param_at)
+  params_at = counted_at (λ n _. suc n) (of is_left_paren)
+      (up_to_at pass quantity.Parts (of is_left_paren) (λ _. unexpected) param_at)
 
   unfoldable pub con_at : Reads Con
   con_at = making_at con_of (then_at (local_at is_big) (then_at (symbol_at is_colon) top.typing))
 
   unfoldable pub next_con_at : ℕ → Reads Con
-  next_con_at n = making_at next_con_of (then_at (symbol_at is_next) (up_to_at pass quantity.Constructors (of is_big) (λ _. unexpected) con_at n))
+  next_con_at n = making_at next_con_of
+      (then_at (symbol_at is_next) (up_to_at pass quantity.Constructors (of is_big) (λ _. unexpected) con_at n))
 
   unfoldable pub more_cons_at : ℕ → Reads (List Con)
   more_cons_at = counted_at (λ n _. suc n) (of is_next) next_con_at
@@ -287,13 +328,23 @@ module _ (pass : Pass) (top inner : LevelReader) where
   cons_at = perhaps_at (of is_big) [] (making_at cons_of (then_at con_at (more_cons_at 1)))
 
   unfoldable pub family_at : Reads Item
-  family_at = making_at family_of (then_at (symbol_at is_data) (then_at (local_at is_big) (then_at (params_at 0) (then_at (symbol_at is_colon) (then_at (top.expr false) (then_at (symbol_at is_where) (then_at (symbol_at is_open) (then_at cons_at (symbol_at is_close)))))))))
+  family_at = making_at family_of
+      (then_at (symbol_at is_data)
+      (then_at (local_at is_big)
+      (then_at (params_at 0)
+      (then_at (symbol_at is_colon)
+      (then_at (top.expr false)
+      (then_at (symbol_at is_where) (then_at (symbol_at is_open) (then_at cons_at (symbol_at is_close)))))))))
 
   unfoldable pub partial_at : Reads Item
-  partial_at = making_at partial_of (then_at (symbol_at is_partial) (then_at next_at (then_at zero_at (then_at (local_at is_simple) (then_at (symbol_at is_colon) top.typing)))))
+  partial_at = making_at partial_of
+      (then_at (symbol_at is_partial)
+      (then_at next_at (then_at zero_at
+      (then_at (local_at is_simple) (then_at (symbol_at is_colon) top.typing)))))
 
   unfoldable pub erased_at : Reads Item
-  erased_at = making_at erased_of (then_at (symbol_at is_zero) (then_at (local_at is_simple) (then_at (symbol_at is_colon) top.typing)))
+  erased_at = making_at erased_of
+      (then_at (symbol_at is_zero) (then_at (local_at is_simple) (then_at (symbol_at is_colon) top.typing)))
 
   unfoldable pub signing_at : Local → Reads Item
   signing_at n = making_at (signature_of n) (then_at (symbol_at is_colon) top.typing)
@@ -302,28 +353,39 @@ module _ (pass : Pass) (top inner : LevelReader) where
   clause_patterns_at = counted_at (λ n _. suc n) (of starts_pattern) (one_pattern_at pass top)
 
   unfoldable pub equation_at : Local → Reads Item
-  equation_at n = making_at (clause_of n) (then_at (clause_patterns_at 0) (then_at (symbol_at is_equals) (top.expr true)))
+  equation_at n = making_at (clause_of n)
+      (then_at (clause_patterns_at 0) (then_at (symbol_at is_equals) (top.expr true)))
 
   unfoldable pub clause_at : Place → Local → Reads Item
-  clause_at at n = cond (is_full pass quantity.Clauses (clauses_before at n.name)) (cap_at (of starts_equation) (λ _. unexpected) (λ _. one_above quantity.Clauses n.span)) (equation_at n)
+  clause_at at n = cond (is_full pass quantity.Clauses (clauses_before at n.name))
+      (cap_at (of starts_equation) (λ _. unexpected) (λ _. one_above quantity.Clauses n.span)) (equation_at n)
 
   unfoldable pub defining_at : Place → Reads Item
-  defining_at at = making_at second (chain_at (local_at is_simple) (λ n. either_at (begins (of is_colon)) (signing_at n) (clause_at at n)))
+  defining_at at = making_at second
+      (chain_at (local_at is_simple) (λ n. either_at (begins (of is_colon)) (signing_at n) (clause_at at n)))
 
   unfoldable pub item_at : Place → Reads Item
-  item_at at = either_at (begins (of is_data)) family_at (either_at (begins (of is_partial)) partial_at (either_at (begins (of is_zero)) erased_at (defining_at at)))
+  item_at at = either_at (begins (of is_data)) family_at
+      (either_at (begins (of is_partial)) partial_at (either_at (begins (of is_zero)) erased_at (defining_at at)))
 
   unfoldable pub import_at : Place → Reads Entry
-  import_at at = making_at import_of (then_at (token_at (λ _. None) (opens at.at_imports (of is_import)) place) (local_at is_name))
+  import_at at = making_at import_of
+      (then_at (token_at (λ _. None) (opens at.at_imports (of is_import)) place) (local_at is_name))
 
   unfoldable pub entry_at : Place → Reads Entry
-  entry_at at = making_at second (then_at (symbol_at is_next) (either_at (begins (of is_import)) (import_at at) (making_at listed (up_to_at pass quantity.Items (of starts_item) (λ _. unexpected) (item_at at) at.items))))
+  entry_at at = making_at second
+      (then_at (symbol_at is_next)
+      (either_at (begins (of is_import)) (import_at at)
+      (making_at listed (up_to_at pass quantity.Items (of starts_item) (λ _. unexpected) (item_at at) at.items))))
 
   unfoldable pub entries_at : Place → Reads (List Entry)
   entries_at = counted_at next_place (of is_next) entry_at
 
   unfoldable pub module_at : Reads Module
-  module_at = making_at module_of (then_at (symbol_at is_open) (then_at (symbol_at is_module) (then_at (local_at is_name) (then_at (entries_at start) (symbol_at is_close)))))
+  module_at = making_at module_of
+      (then_at (symbol_at is_open)
+      (then_at (symbol_at is_module)
+      (then_at (local_at is_name) (then_at (entries_at start) (symbol_at is_close)))))
 
 unfoldable pub text_at : Pass → Reads Module
 text_at pass = module_at pass (levels_at pass 200) (levels_at pass 199)

@@ -77,7 +77,9 @@ MayReadBelow n may = (m : ℕ) (tail : Bool) (rest : Rest) → m < n → may m t
 
 -- answers what the level's reader gives
 abbrev pub ReadsBelow : Pass → ℕ → (ℕ → Bool → Rest → Result (Expr × Rest) Stop → Type 0) → Type 0
-ReadsBelow pass n gives = (m : ℕ) (tail : Bool) (rest : Rest) (answer : Result (Expr × Rest) Stop) → m < n → gives m tail rest answer → Answers tree_of answer ((levels_at pass m).expr tail rest.now)
+ReadsBelow pass n gives =
+    (m : ℕ) (tail : Bool) (rest : Rest) (answer : Result (Expr × Rest) Stop) → m < n → gives m tail rest answer →
+    Answers tree_of answer ((levels_at pass m).expr tail rest.now)
 
 -- what a `let` binds
 abbrev pub let_parts_of : LetHead → LetParts
@@ -91,7 +93,12 @@ entry_of (entry.Item i) = listed (item_of i)
 
 -- where among the items a reader is behind these
 abbrev pub place_of : Body → Place
-place_of b = record { at_imports = length b.items.items == 0; items = length b.items.items; clauses_of = b.clauses_of; clauses = b.clauses }
+place_of b = record {
+  at_imports = length b.items.items == 0;
+  items = length b.items.items;
+  clauses_of = b.clauses_of;
+  clauses = b.clauses;
+}
 
 -- imports and items apart
 abbrev pub Parts : Type 0

@@ -24,13 +24,13 @@ use std::alloc::Global;
 pub fn bracket<'a, E: Fn(u32, bool, Rest<'a>) -> Reading<'a, Expr>>(
     level: Level,
     read: &E,
-    laid: Rest<'a>,
+    ahead: Rest<'a>,
 ) -> Reading<'a, Expr>
     requires callable { MayReadBelow level.left (E.pre read.now) }
     requires reads { ReadsBelow level.pass level.left (E.post read.now) }
-    ensures { Answers tree_of result (inside bracket_at level.pass level.left laid.now) }
+    ensures { Answers tree_of result (inside bracket_at level.pass level.left ahead.now) }
 {
-    let (_, rest) = opener(Class::LeftParen, level.left, laid)?;
+    let (_, rest) = opener(Class::LeftParen, level.left, ahead)?;
     let (inner, rest) = read(level.left - 1, false, rest)?;
     let (_, rest) = symbol(Class::RightParen, rest)?;
     Ok((inner, rest))
@@ -41,15 +41,15 @@ pub fn bracket<'a, E: Fn(u32, bool, Rest<'a>) -> Reading<'a, Expr>>(
 pub fn other_atom<'a, E: Fn(u32, bool, Rest<'a>) -> Reading<'a, Expr>>(
     level: Level,
     read: &E,
-    laid: Rest<'a>,
+    ahead: Rest<'a>,
 ) -> Reading<'a, Expr>
     requires callable { MayReadBelow level.left (E.pre read.now) }
     requires reads { ReadsBelow level.pass level.left (E.post read.now) }
-    ensures { Answers tree_of result (inside other_atom_at level.pass level.left laid.now) }
+    ensures { Answers tree_of result (inside other_atom_at level.pass level.left ahead.now) }
 {
-    match laid {
-        [first, ..] if first.class.is_word() => word(level, laid),
-        _ => bracket(level, read, laid),
+    match ahead {
+        [first, ..] if first.class.is_word() => word(level, ahead),
+        _ => bracket(level, read, ahead),
     }
 }
 
@@ -58,16 +58,16 @@ pub fn other_atom<'a, E: Fn(u32, bool, Rest<'a>) -> Reading<'a, Expr>>(
 pub fn atom<'a, E: Fn(u32, bool, Rest<'a>) -> Reading<'a, Expr>>(
     level: Level,
     read: &E,
-    laid: Rest<'a>,
+    ahead: Rest<'a>,
 ) -> Reading<'a, Expr>
     requires callable { MayReadBelow level.left (E.pre read.now) }
     requires reads { ReadsBelow level.pass level.left (E.post read.now) }
-    ensures { Answers tree_of result (inside atom_at level.pass level.left laid.now) }
+    ensures { Answers tree_of result (inside atom_at level.pass level.left ahead.now) }
 {
-    if !begins_name(laid) {
-        return other_atom(level, read, laid);
+    if !begins_name(ahead) {
+        return other_atom(level, read, ahead);
     }
-    let (name, rest) = used_name(laid)?;
+    let (name, rest) = used_name(ahead)?;
     Ok((Expr::Name(name), rest))
 }
 
@@ -76,13 +76,13 @@ pub fn atom<'a, E: Fn(u32, bool, Rest<'a>) -> Reading<'a, Expr>>(
 pub fn brace<'a, E: Fn(u32, bool, Rest<'a>) -> Reading<'a, Expr>>(
     level: Level,
     read: &E,
-    laid: Rest<'a>,
+    ahead: Rest<'a>,
 ) -> Reading<'a, Argument>
     requires callable { MayReadBelow level.left (E.pre read.now) }
     requires reads { ReadsBelow level.pass level.left (E.post read.now) }
-    ensures { Answers argument_of result (inside brace_at level.pass level.left laid.now) }
+    ensures { Answers argument_of result (inside brace_at level.pass level.left ahead.now) }
 {
-    let (_, rest) = opener(Class::LeftBrace, level.left, laid)?;
+    let (_, rest) = opener(Class::LeftBrace, level.left, ahead)?;
     let (inner, rest) = read(level.left - 1, false, rest)?;
     let (_, rest) = symbol(Class::RightBrace, rest)?;
     Ok((Argument::Braced(inner), rest))
@@ -93,15 +93,16 @@ pub fn brace<'a, E: Fn(u32, bool, Rest<'a>) -> Reading<'a, Expr>>(
 pub fn braces<'a, E: Fn(u32, bool, Rest<'a>) -> Reading<'a, Expr>>(
     level: Level,
     read: &E,
-    laid: Rest<'a>,
+    ahead: Rest<'a>,
 ) -> Reading<'a, Vec<Argument>>
     requires callable { MayReadBelow level.left (E.pre read.now) }
     requires reads { ReadsBelow level.pass level.left (E.post read.now) }
-    ensures { Answers (λ v. map argument_of v.items) result (many_at (of is_left_brace) (inside brace_at level.pass level.left) laid.now) }
+    ensures { Answers (λ v. map argument_of v.items) result
+        (many_at (of is_left_brace) (inside brace_at level.pass level.left) ahead.now) }
 {
     let mut found = Vec::new(level.alloc);
-    let mut rest = laid;
-    'braces: for _ in 0..laid.len() {
+    let mut rest = ahead;
+    'braces: for _ in 0..ahead.len() {
         if !begins(Class::LeftBrace, rest) {
             return Ok((found, rest));
         }
@@ -118,14 +119,17 @@ pub fn atoms<'a, E: Fn(u32, bool, Rest<'a>) -> Reading<'a, Expr>>(
     level: Level,
     read: &E,
     mut found: Vec<Argument>,
-    laid: Rest<'a>,
+    ahead: Rest<'a>,
 ) -> Reading<'a, Vec<Argument>>
     requires callable { MayReadBelow level.left (E.pre read.now) }
     requires reads { ReadsBelow level.pass level.left (E.post read.now) }
-    ensures { Answers (λ v. map argument_of v.items) result (with_front (map argument_of found.items) (many_at (of starts_atom) (making_at written_of (inside atom_at level.pass level.left)) laid.now)) }
+    ensures { Answers (λ v. map argument_of v.items) result
+        (with_front (map argument_of found.items)
+        (many_at (of starts_atom) (making_at written_of (inside atom_at level.pass level.left))
+        ahead.now)) }
 {
-    let mut rest = laid;
-    'atoms: for _ in 0..laid.len() {
+    let mut rest = ahead;
+    'atoms: for _ in 0..ahead.len() {
         if !begins_atom(rest) {
             return Ok((found, rest));
         }
@@ -141,13 +145,13 @@ pub fn atoms<'a, E: Fn(u32, bool, Rest<'a>) -> Reading<'a, Expr>>(
 pub fn the<'a, E: Fn(u32, bool, Rest<'a>) -> Reading<'a, Expr>>(
     level: Level,
     read: &E,
-    laid: Rest<'a>,
+    ahead: Rest<'a>,
 ) -> Reading<'a, Expr>
     requires callable { MayReadBelow level.left (E.pre read.now) }
     requires reads { ReadsBelow level.pass level.left (E.post read.now) }
-    ensures { Answers tree_of result (inside the_at level.pass level.left laid.now) }
+    ensures { Answers tree_of result (inside the_at level.pass level.left ahead.now) }
 {
-    let (span, rest) = symbol(Class::The, laid)?;
+    let (span, rest) = symbol(Class::The, ahead)?;
     let (ty, rest) = atom(level, read, rest)?;
     let (value, rest) = atom(level, read, rest)?;
     Ok((
@@ -167,7 +171,8 @@ fn applied(
     arguments: Vec<Argument>,
     span: Span,
 ) -> Result<Expr, MemoryError>
-    ensures { IfOk result (λ t. tree_of t ≡ app_of span (tree_of function) (map argument_of arguments.items)) }
+    ensures { IfOk result (λ t. tree_of t ≡ app_of span (tree_of function)
+        (map argument_of arguments.items)) }
 {
     if arguments.is_empty() {
         return Ok(function);
@@ -184,13 +189,13 @@ fn applied(
 pub fn named_app<'a, E: Fn(u32, bool, Rest<'a>) -> Reading<'a, Expr>>(
     level: Level,
     read: &E,
-    laid: Rest<'a>,
+    ahead: Rest<'a>,
 ) -> Reading<'a, Expr>
     requires callable { MayReadBelow level.left (E.pre read.now) }
     requires reads { ReadsBelow level.pass level.left (E.post read.now) }
-    ensures { Answers tree_of result (inside named_app_at level.pass level.left laid.now) }
+    ensures { Answers tree_of result (inside named_app_at level.pass level.left ahead.now) }
 {
-    let (name, rest) = used_name(laid)?;
+    let (name, rest) = used_name(ahead)?;
     let span = name.span;
     let (found, rest) = braces(level, read, rest)?;
     let (arguments, rest) = atoms(level, read, found, rest)?;
@@ -205,14 +210,14 @@ pub fn named_app<'a, E: Fn(u32, bool, Rest<'a>) -> Reading<'a, Expr>>(
 pub fn other_app<'a, E: Fn(u32, bool, Rest<'a>) -> Reading<'a, Expr>>(
     level: Level,
     read: &E,
-    laid: Rest<'a>,
+    ahead: Rest<'a>,
 ) -> Reading<'a, Expr>
     requires callable { MayReadBelow level.left (E.pre read.now) }
     requires reads { ReadsBelow level.pass level.left (E.post read.now) }
-    ensures { Answers tree_of result (inside other_app_at level.pass level.left laid.now) }
+    ensures { Answers tree_of result (inside other_app_at level.pass level.left ahead.now) }
 {
-    let span = first_place(laid)?;
-    let (function, rest) = other_atom(level, read, laid)?;
+    let span = first_place(ahead)?;
+    let (function, rest) = other_atom(level, read, ahead)?;
     let (arguments, rest) = atoms(level, read, Vec::new(level.alloc), rest)?;
     Ok((applied(level.alloc, function, arguments, span)?, rest))
 }
@@ -222,18 +227,18 @@ pub fn other_app<'a, E: Fn(u32, bool, Rest<'a>) -> Reading<'a, Expr>>(
 pub fn app<'a, E: Fn(u32, bool, Rest<'a>) -> Reading<'a, Expr>>(
     level: Level,
     read: &E,
-    laid: Rest<'a>,
+    ahead: Rest<'a>,
 ) -> Reading<'a, Expr>
     requires callable { MayReadBelow level.left (E.pre read.now) }
     requires reads { ReadsBelow level.pass level.left (E.post read.now) }
-    ensures { Answers tree_of result (inside app_at level.pass level.left laid.now) }
+    ensures { Answers tree_of result (inside app_at level.pass level.left ahead.now) }
 {
-    if begins(Class::The, laid) {
-        the(level, read, laid)
-    } else if begins_name(laid) {
-        named_app(level, read, laid)
+    if begins(Class::The, ahead) {
+        the(level, read, ahead)
+    } else if begins_name(ahead) {
+        named_app(level, read, ahead)
     } else {
-        other_app(level, read, laid)
+        other_app(level, read, ahead)
     }
 }
 
@@ -242,16 +247,17 @@ pub fn app<'a, E: Fn(u32, bool, Rest<'a>) -> Reading<'a, Expr>>(
 pub fn codomain<'a, E: Fn(u32, bool, Rest<'a>) -> Reading<'a, Expr>>(
     level: Level,
     read: &E,
-    laid: Rest<'a>,
+    ahead: Rest<'a>,
 ) -> Reading<'a, Option<Expr>>
     requires callable { MayReadBelow level.left (E.pre read.now) }
     requires reads { ReadsBelow level.pass level.left (E.post read.now) }
-    ensures { Answers (option_map tree_of) result (inside codomain_at level.pass level.left laid.now) }
+    ensures { Answers (option_map tree_of) result
+        (inside codomain_at level.pass level.left ahead.now) }
 {
-    if !begins(Class::Arrow, laid) {
-        return Ok((None, laid));
+    if !begins(Class::Arrow, ahead) {
+        return Ok((None, ahead));
     }
-    let (_, rest) = opener(Class::Arrow, level.left, laid)?;
+    let (_, rest) = opener(Class::Arrow, level.left, ahead)?;
     let (codomain, rest) = read(level.left - 1, false, rest)?;
     Ok((Some(codomain), rest))
 }
@@ -263,7 +269,8 @@ fn arrow_type(
     codomain: Option<Expr>,
     span: Span,
 ) -> Result<Expr, MemoryError>
-    ensures { IfOk result (λ t. tree_of t ≡ arrow_of ((span, tree_of domain), option_map tree_of codomain)) }
+    ensures { IfOk result (λ t. tree_of t ≡ arrow_of
+        ((span, tree_of domain), option_map tree_of codomain)) }
 {
     let Some(codomain) = codomain else {
         return Ok(domain);
@@ -283,14 +290,14 @@ fn arrow_type(
 pub fn arrow<'a, E: Fn(u32, bool, Rest<'a>) -> Reading<'a, Expr>>(
     level: Level,
     read: &E,
-    laid: Rest<'a>,
+    ahead: Rest<'a>,
 ) -> Reading<'a, Expr>
     requires callable { MayReadBelow level.left (E.pre read.now) }
     requires reads { ReadsBelow level.pass level.left (E.post read.now) }
-    ensures { Answers tree_of result (inside arrow_at level.pass level.left laid.now) }
+    ensures { Answers tree_of result (inside arrow_at level.pass level.left ahead.now) }
 {
-    let span = first_place(laid)?;
-    let (domain, rest) = app(level, read, laid)?;
+    let span = first_place(ahead)?;
+    let (domain, rest) = app(level, read, ahead)?;
     let (codomain, rest) = codomain(level, read, rest)?;
     Ok((arrow_type(level.alloc, domain, codomain, span)?, rest))
 }

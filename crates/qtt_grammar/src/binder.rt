@@ -18,13 +18,13 @@ use qtt_syntax::{Binder, Expr};
 pub fn typed<'a, E: Fn(u32, bool, Rest<'a>) -> Reading<'a, Expr>>(
     level: Level,
     read: &E,
-    laid: Rest<'a>,
+    ahead: Rest<'a>,
 ) -> Reading<'a, Binder>
     requires callable { MayReadBelow level.left (E.pre read.now) }
     requires reads { ReadsBelow level.pass level.left (E.post read.now) }
-    ensures { Answers binder_of result (inside typed_at level.pass level.left laid.now) }
+    ensures { Answers binder_of result (inside typed_at level.pass level.left ahead.now) }
 {
-    let (span, rest) = opener(Class::LeftParen, level.left, laid)?;
+    let (span, rest) = opener(Class::LeftParen, level.left, ahead)?;
     let (mult, rest) = mark(rest);
     let (name, rest) = bound_name(rest)?;
     let (_, rest) = symbol(Class::Colon, rest)?;
@@ -46,18 +46,18 @@ pub fn typed<'a, E: Fn(u32, bool, Rest<'a>) -> Reading<'a, Expr>>(
 pub fn binder<'a, E: Fn(u32, bool, Rest<'a>) -> Reading<'a, Expr>>(
     level: Level,
     read: &E,
-    laid: Rest<'a>,
+    ahead: Rest<'a>,
 ) -> Reading<'a, Binder>
     requires callable { MayReadBelow level.left (E.pre read.now) }
     requires reads { ReadsBelow level.pass level.left (E.post read.now) }
-    ensures { Answers binder_of result (inside binder_at level.pass level.left laid.now) }
+    ensures { Answers binder_of result (inside binder_at level.pass level.left ahead.now) }
 {
-    match laid {
+    match ahead {
         [first, ..] if first.class.is_bname() => {
-            let (name, rest) = bound_name(laid)?;
+            let (name, rest) = bound_name(ahead)?;
             Ok((Binder::Plain(name), rest))
         }
-        _ => typed(level, read, laid),
+        _ => typed(level, read, ahead),
     }
 }
 
@@ -66,14 +66,16 @@ pub fn more_binders<'a, E: Fn(u32, bool, Rest<'a>) -> Reading<'a, Expr>>(
     level: Level,
     read: &E,
     mut found: Vec<Binder>,
-    laid: Rest<'a>,
+    ahead: Rest<'a>,
 ) -> Reading<'a, Vec<Binder>>
     requires callable { MayReadBelow level.left (E.pre read.now) }
     requires reads { ReadsBelow level.pass level.left (E.post read.now) }
-    ensures { Answers (λ v. map binder_of v.items) result (with_front (map binder_of found.items) (many_at (of starts_binder) (inside binder_at level.pass level.left) laid.now)) }
+    ensures { Answers (λ v. map binder_of v.items) result
+        (with_front (map binder_of found.items)
+        (many_at (of starts_binder) (inside binder_at level.pass level.left) ahead.now)) }
 {
-    let mut rest = laid;
-    'binders: for _ in 0..laid.len() {
+    let mut rest = ahead;
+    'binders: for _ in 0..ahead.len() {
         if !begins_binders(rest) {
             return Ok((found, rest));
         }
@@ -89,13 +91,15 @@ pub fn more_binders<'a, E: Fn(u32, bool, Rest<'a>) -> Reading<'a, Expr>>(
 pub fn some_binders<'a, E: Fn(u32, bool, Rest<'a>) -> Reading<'a, Expr>>(
     level: Level,
     read: &E,
-    laid: Rest<'a>,
+    ahead: Rest<'a>,
 ) -> Reading<'a, Vec<Binder>>
     requires callable { MayReadBelow level.left (E.pre read.now) }
     requires reads { ReadsBelow level.pass level.left (E.post read.now) }
-    ensures { Answers (λ v. map binder_of v.items) result (making_at both (then_at (inside binder_at level.pass level.left) (many_at (of starts_binder) (inside binder_at level.pass level.left))) laid.now) }
+    ensures { Answers (λ v. map binder_of v.items) result
+        (making_at both (then_at (inside binder_at level.pass level.left)
+        (many_at (of starts_binder) (inside binder_at level.pass level.left))) ahead.now) }
 {
-    let (first, rest) = binder(level, read, laid)?;
+    let (first, rest) = binder(level, read, ahead)?;
     let mut found = Vec::new(level.alloc);
     found.push(first)?;
     more_binders(level, read, found, rest)
@@ -105,14 +109,16 @@ pub fn some_binders<'a, E: Fn(u32, bool, Rest<'a>) -> Reading<'a, Expr>>(
 fn inner_binders<'a, E: Fn(u32, bool, Rest<'a>) -> Reading<'a, Expr>>(
     level: Level,
     read: &E,
-    laid: Rest<'a>,
+    ahead: Rest<'a>,
 ) -> Reading<'a, Vec<Binder>>
     requires may { 0 < level.left }
     requires callable { MayReadBelow level.left (E.pre read.now) }
     requires reads { ReadsBelow level.pass level.left (E.post read.now) }
-    ensures { Answers (λ v. map binder_of v.items) result (making_at both (then_at (below level.pass level.left).binder (many_at (of starts_binder) (below level.pass level.left).binder)) laid.now) }
+    ensures { Answers (λ v. map binder_of v.items) result
+        (making_at both (then_at (below level.pass level.left).binder
+        (many_at (of starts_binder) (below level.pass level.left).binder)) ahead.now) }
 {
-    some_binders(level.below(), read, laid)
+    some_binders(level.below(), read, ahead)
 }
 
 /// `\ binders => body`
@@ -121,13 +127,13 @@ pub fn lambda<'a, E: Fn(u32, bool, Rest<'a>) -> Reading<'a, Expr>>(
     level: Level,
     read: &E,
     tail: bool,
-    laid: Rest<'a>,
+    ahead: Rest<'a>,
 ) -> Reading<'a, Expr>
     requires callable { MayReadBelow level.left (E.pre read.now) }
     requires reads { ReadsBelow level.pass level.left (E.post read.now) }
-    ensures { Answers tree_of result (inside lambda_at level.pass level.left tail laid.now) }
+    ensures { Answers tree_of result (inside lambda_at level.pass level.left tail ahead.now) }
 {
-    let (span, rest) = opener(Class::Backslash, level.left, laid)?;
+    let (span, rest) = opener(Class::Backslash, level.left, ahead)?;
     let (binders, rest) = inner_binders(level, read, rest)?;
     let (_, rest) = symbol(Class::FatArrow, rest)?;
     let (body, rest) = inner(level, read, tail, rest)?;

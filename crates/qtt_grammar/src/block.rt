@@ -33,17 +33,17 @@ pub struct LetHead {
 pub fn annotation<'a, E: Fn(u32, bool, Rest<'a>) -> Reading<'a, Expr>>(
     level: Level,
     read: &E,
-    laid: Rest<'a>,
+    ahead: Rest<'a>,
 ) -> Reading<'a, Option<Box<Expr>>>
     requires may { 0 < level.left }
     requires callable { MayReadBelow level.left (E.pre read.now) }
     requires reads { ReadsBelow level.pass level.left (E.post read.now) }
-    ensures { Answers written_type result (inside annotation_at level.pass level.left laid.now) }
+    ensures { Answers written_type result (inside annotation_at level.pass level.left ahead.now) }
 {
-    if !begins(Class::Colon, laid) {
-        return Ok((None, laid));
+    if !begins(Class::Colon, ahead) {
+        return Ok((None, ahead));
     }
-    let (_, rest) = symbol(Class::Colon, laid)?;
+    let (_, rest) = symbol(Class::Colon, ahead)?;
     let (ty, rest) = read(level.left - 1, false, rest)?;
     Ok((Some(Box::new(level.alloc, ty)?), rest))
 }
@@ -53,14 +53,15 @@ pub fn annotation<'a, E: Fn(u32, bool, Rest<'a>) -> Reading<'a, Expr>>(
 pub fn let_head<'a, E: Fn(u32, bool, Rest<'a>) -> Reading<'a, Expr>>(
     level: Level,
     read: &E,
-    laid: Rest<'a>,
+    ahead: Rest<'a>,
 ) -> Reading<'a, LetHead>
     requires callable { MayReadBelow level.left (E.pre read.now) }
     requires reads { ReadsBelow level.pass level.left (E.post read.now) }
-    ensures reads { Answers let_parts_of result (inside let_head_at level.pass level.left laid.now) }
+    ensures reads { Answers let_parts_of result
+        (inside let_head_at level.pass level.left ahead.now) }
     ensures may { OnOk result (0 < level.left) }
 {
-    let (span, rest) = opener(Class::Let, level.left, laid)?;
+    let (span, rest) = opener(Class::Let, level.left, ahead)?;
     let (mult, rest) = mark(rest);
     let (name, rest) = bound_name(rest)?;
     let (ty, rest) = annotation(level, read, rest)?;
@@ -98,13 +99,13 @@ pub fn letting<'a, E: Fn(u32, bool, Rest<'a>) -> Reading<'a, Expr>>(
     level: Level,
     read: &E,
     tail: bool,
-    laid: Rest<'a>,
+    ahead: Rest<'a>,
 ) -> Reading<'a, Expr>
     requires callable { MayReadBelow level.left (E.pre read.now) }
     requires reads { ReadsBelow level.pass level.left (E.post read.now) }
-    ensures { Answers tree_of result (inside letting_at level.pass level.left tail laid.now) }
+    ensures { Answers tree_of result (inside letting_at level.pass level.left tail ahead.now) }
 {
-    let (head, rest) = let_head(level, read, laid)?;
+    let (head, rest) = let_head(level, read, ahead)?;
     let (_, rest) = symbol(Class::In, rest)?;
     let (body, rest) = read(level.left - 1, tail, rest)?;
     Ok((let_in(level.alloc, head, body)?, rest))
@@ -129,24 +130,26 @@ pub fn body<'a, E: Fn(u32, bool, Rest<'a>) -> Reading<'a, Expr>>(
     level: Level,
     read: &E,
     tail: bool,
-    laid: Rest<'a>,
+    ahead: Rest<'a>,
 ) -> Reading<'a, Option<Expr>>
     requires may { 0 < level.left }
     requires callable { MayReadBelow level.left (E.pre read.now) }
     requires reads { ReadsBelow level.pass level.left (E.post read.now) }
-    ensures { Answers (option_map tree_of) result (inside body_at level.pass level.left tail laid.now) }
+    ensures { Answers (option_map tree_of) result
+        (inside body_at level.pass level.left tail ahead.now) }
 {
-    if !begins(Class::In, laid) {
-        return Ok((None, laid));
+    if !begins(Class::In, ahead) {
+        return Ok((None, ahead));
     }
-    let (_, rest) = symbol(Class::In, laid)?;
+    let (_, rest) = symbol(Class::In, ahead)?;
     let (body, rest) = read(level.left - 1, tail, rest)?;
     Ok((Some(body), rest))
 }
 
 // A `let` as a statement, which is an expression where a body stands behind it.
 fn let_with(alloc: Global, head: LetHead, body: Option<Expr>) -> Result<Statement, MemoryError>
-    ensures { IfOk result (λ s. statement_of s ≡ let_statement_of (let_parts_of head, option_map tree_of body)) }
+    ensures { IfOk result (λ s. statement_of s ≡ let_statement_of
+        (let_parts_of head, option_map tree_of body)) }
 {
     let span = head.span;
     match body {
@@ -164,13 +167,14 @@ pub fn let_statement<'a, E: Fn(u32, bool, Rest<'a>) -> Reading<'a, Expr>>(
     level: Level,
     read: &E,
     tail: bool,
-    laid: Rest<'a>,
+    ahead: Rest<'a>,
 ) -> Reading<'a, Statement>
     requires callable { MayReadBelow level.left (E.pre read.now) }
     requires reads { ReadsBelow level.pass level.left (E.post read.now) }
-    ensures { Answers statement_of result (inside let_statement_at level.pass level.left tail laid.now) }
+    ensures { Answers statement_of result
+        (inside let_statement_at level.pass level.left tail ahead.now) }
 {
-    let (head, rest) = let_head(level, read, laid)?;
+    let (head, rest) = let_head(level, read, ahead)?;
     let (body, rest) = body(level, read, tail, rest)?;
     Ok((let_with(level.alloc, head, body)?, rest))
 }
@@ -180,13 +184,13 @@ pub fn let_statement<'a, E: Fn(u32, bool, Rest<'a>) -> Reading<'a, Expr>>(
 pub fn binding<'a, E: Fn(u32, bool, Rest<'a>) -> Reading<'a, Expr>>(
     level: Level,
     read: &E,
-    laid: Rest<'a>,
+    ahead: Rest<'a>,
 ) -> Reading<'a, Statement>
     requires callable { MayReadBelow (level.left + 1) (E.pre read.now) }
     requires reads { ReadsBelow level.pass (level.left + 1) (E.post read.now) }
-    ensures { Answers statement_of result (inside binding_at level.pass level.left laid.now) }
+    ensures { Answers statement_of result (inside binding_at level.pass level.left ahead.now) }
 {
-    let (name, rest) = bound_name(laid)?;
+    let (name, rest) = bound_name(ahead)?;
     let (_, rest) = symbol(Class::LeftArrow, rest)?;
     let (value, rest) = read(level.left, false, rest)?;
     Ok((Statement::Bind { name, value }, rest))
@@ -198,13 +202,13 @@ pub fn here<'a, E: Fn(u32, bool, Rest<'a>) -> Reading<'a, Expr>>(
     level: Level,
     read: &E,
     tail: bool,
-    laid: Rest<'a>,
+    ahead: Rest<'a>,
 ) -> Reading<'a, Expr>
     requires callable { MayReadBelow (level.left + 1) (E.pre read.now) }
     requires reads { ReadsBelow level.pass (level.left + 1) (E.post read.now) }
-    ensures { Answers tree_of result (inside expr_at level.pass level.left tail laid.now) }
+    ensures { Answers tree_of result (inside expr_at level.pass level.left tail ahead.now) }
 {
-    read(level.left, tail, laid)
+    read(level.left, tail, ahead)
 }
 
 /// A statement that is an expression and begins with no `let`.
@@ -213,15 +217,17 @@ pub fn run<'a, E: Fn(u32, bool, Rest<'a>) -> Reading<'a, Expr>>(
     level: Level,
     read: &E,
     tail: bool,
-    laid: Rest<'a>,
+    ahead: Rest<'a>,
 ) -> Reading<'a, Statement>
-    requires no_let { begins (of is_let) laid.now ≡ false }
+    requires no_let { begins (of is_let) ahead.now ≡ false }
     requires callable { MayReadBelow (level.left + 1) (E.pre read.now) }
     requires reads { ReadsBelow level.pass (level.left + 1) (E.post read.now) }
-    ensures { Answers statement_of result (making_at run_of (placed_at place (inside other_expr_at level.pass level.left tail)) laid.now) }
+    ensures { Answers statement_of result
+        (making_at run_of (placed_at place (inside other_expr_at level.pass level.left tail))
+        ahead.now) }
 {
-    let span = first_place(laid)?;
-    let (value, rest) = here(level, read, tail, laid)?;
+    let span = first_place(ahead)?;
+    let (value, rest) = here(level, read, tail, ahead)?;
     Ok((Statement::Run { value, span }, rest))
 }
 
@@ -231,17 +237,18 @@ pub fn statement<'a, E: Fn(u32, bool, Rest<'a>) -> Reading<'a, Expr>>(
     level: Level,
     read: &E,
     tail: bool,
-    laid: Rest<'a>,
+    ahead: Rest<'a>,
 ) -> Reading<'a, Statement>
     requires callable { MayReadBelow (level.left + 1) (E.pre read.now) }
     requires reads { ReadsBelow level.pass (level.left + 1) (E.post read.now) }
-    ensures { Answers statement_of result (inside statement_at level.pass level.left tail laid.now) }
+    ensures { Answers statement_of result
+        (inside statement_at level.pass level.left tail ahead.now) }
 {
-    if begins(Class::Let, laid) {
-        let_statement(level, read, tail, laid)
-    } else if begins_bind(laid) {
-        binding(level, read, laid)
+    if begins(Class::Let, ahead) {
+        let_statement(level, read, tail, ahead)
+    } else if begins_bind(ahead) {
+        binding(level, read, ahead)
     } else {
-        run(level, read, tail, laid)
+        run(level, read, tail, ahead)
     }
 }

@@ -56,8 +56,12 @@ impl Body {
         requires { self.old.clauses + 1 < 2 ^ 64 }
         ensures imports { OnOk result (self.new.imports ≡ self.old.imports) }
         ensures items { OnOk result (self.new.items ≡ self.old.items) }
-        ensures name { OnOk result (self.new.clauses_of ≡ (next_place (place_of self.old) (listed (item_of item.now))).clauses_of) }
-        ensures count { OnOk result (self.new.clauses ≡ (next_place (place_of self.old) (listed (item_of item.now))).clauses) }
+        ensures name { OnOk result
+            (self.new.clauses_of ≡
+            (next_place (place_of self.old) (listed (item_of item.now))).clauses_of) }
+        ensures count { OnOk result
+            (self.new.clauses ≡ (next_place (place_of self.old)
+            (listed (item_of item.now))).clauses) }
     {
         match item {
             Item::Clause(clause) => {
@@ -75,8 +79,10 @@ impl Body {
     /// Puts an entry behind the others.
     pub fn push(&mut self, alloc: Global, entry: Entry) -> Result<(), MemoryError>
         requires { self.old.clauses + 1 < 2 ^ 64 }
-        ensures parts { OnOk result (body_of self.new ≡ joined_body (body_of self.old) (entry_of entry ∷ [])) }
-        ensures place { OnOk result (place_of self.new ≡ next_place (place_of self.old) (entry_of entry)) }
+        ensures parts { OnOk result
+            (body_of self.new ≡ joined_body (body_of self.old) (entry_of entry ∷ [])) }
+        ensures place { OnOk result
+            (place_of self.new ≡ next_place (place_of self.old) (entry_of entry)) }
     {
         match entry {
             Entry::Import(import) => self.imports.push(import)?,

@@ -61,8 +61,8 @@ pub enum Class {
 /// Which limits are looked at.
 #[derive(Clone, Copy, Debug, PartialEq, Eq)]
 pub enum Pass {
-    /// Those on items, clauses, constructors, parameters, patterns, statements, the bytes of a text
-    /// and the number after `Type`; the one on indices and fields is no part of it.
+    /// Those on items, clauses, constructors, parameters, patterns, statements, the bytes of a
+    /// text and the number after `Type`; the one on indices and fields is no part of it.
     Counts,
     /// None of them.
     Free,

@@ -21,10 +21,10 @@ use std::alloc::Global;
 
 // A hole, in tail position.
 #[tactic(auto, unfolding(crate::specs::Readers::hole_at))]
-fn hole<'a>(level: Level, tail: bool, laid: Rest<'a>) -> Reading<'a, Expr>
-    ensures { Answers tree_of result (inside hole_at level.pass level.left tail laid.now) }
+fn hole<'a>(level: Level, tail: bool, ahead: Rest<'a>) -> Reading<'a, Expr>
+    ensures { Answers tree_of result (inside hole_at level.pass level.left tail ahead.now) }
 {
-    match laid {
+    match ahead {
         [first, rest @ ..] if tail && Class::Hole.same(first.class) => Ok((
             Expr::Hole {
                 name: first.name.copy()?,
@@ -32,13 +32,14 @@ fn hole<'a>(level: Level, tail: bool, laid: Rest<'a>) -> Reading<'a, Expr>
             },
             rest,
         )),
-        _ => Err(Stop::Bad(Reason::Unexpected, laid)),
+        _ => Err(Stop::Bad(Reason::Unexpected, ahead)),
     }
 }
 
 // The function type from a binder, or the codomain alone where the binder has no type.
 fn pi_type(alloc: Global, binder: Binder, codomain: Expr) -> Result<Expr, MemoryError>
-    ensures { IfOk result (λ t. (s : Span) → tree_of t ≡ pi_of (binder_of binder, (s, tree_of codomain))) }
+    ensures { IfOk result (λ t. (s : Span) →
+        tree_of t ≡ pi_of (binder_of binder, (s, tree_of codomain))) }
 {
     match binder {
         Binder::Plain(_) => Ok(codomain),
@@ -63,13 +64,13 @@ fn pi_type(alloc: Global, binder: Binder, codomain: Expr) -> Result<Expr, Memory
 fn pi<'a, E: Fn(u32, bool, Rest<'a>) -> Reading<'a, Expr>>(
     level: Level,
     read: &E,
-    laid: Rest<'a>,
+    ahead: Rest<'a>,
 ) -> Reading<'a, Expr>
     requires callable { MayReadBelow level.left (E.pre read.now) }
     requires reads { ReadsBelow level.pass level.left (E.post read.now) }
-    ensures { Answers tree_of result (inside pi_at level.pass level.left laid.now) }
+    ensures { Answers tree_of result (inside pi_at level.pass level.left ahead.now) }
 {
-    let (binder, rest) = typed(level, read, laid)?;
+    let (binder, rest) = typed(level, read, ahead)?;
     let (_, rest) = opener(Class::Arrow, level.left, rest)?;
     let (codomain, rest) = read(level.left - 1, false, rest)?;
     Ok((pi_type(level.alloc, binder, codomain)?, rest))
@@ -80,36 +81,37 @@ fn form<'a, E: Fn(u32, bool, Rest<'a>) -> Reading<'a, Expr>>(
     level: Level,
     read: &E,
     tail: bool,
-    laid: Rest<'a>,
+    ahead: Rest<'a>,
 ) -> Reading<'a, Expr>
     requires callable { MayReadBelow level.left (E.pre read.now) }
     requires reads { ReadsBelow level.pass level.left (E.post read.now) }
-    ensures { Answers tree_of result (inside expr_at level.pass level.left tail laid.now) }
+    ensures { Answers tree_of result (inside expr_at level.pass level.left tail ahead.now) }
 {
-    if begins(Class::Let, laid) {
-        letting(level, read, tail, laid)
-    } else if begins(Class::Hole, laid) {
-        hole(level, tail, laid)
-    } else if begins(Class::Backslash, laid) {
-        lambda(level, read, tail, laid)
-    } else if begins(Class::Do, laid) {
-        doing(level, read, tail, laid)
-    } else if begins_binder(laid) {
-        pi(level, read, laid)
+    if begins(Class::Let, ahead) {
+        letting(level, read, tail, ahead)
+    } else if begins(Class::Hole, ahead) {
+        hole(level, tail, ahead)
+    } else if begins(Class::Backslash, ahead) {
+        lambda(level, read, tail, ahead)
+    } else if begins(Class::Do, ahead) {
+        doing(level, read, tail, ahead)
+    } else if begins_binder(ahead) {
+        pi(level, read, ahead)
     } else {
-        arrow(level, read, laid)
+        arrow(level, read, ahead)
     }
 }
 
-/// An expression of a level; `tail` says that it stands in tail position, where a hole may stand.
+/// An expression of a level; `tail` says that it stands in tail position, where a hole may
+/// stand.
 #[cycle(expr)]
 #[tactic(auto, using(crate::proofs::Below::level_is))]
-pub fn expr<'a>(level: Level, tail: bool, laid: Rest<'a>) -> Reading<'a, Expr>
-    ensures { Answers tree_of result ((levels_at level.pass level.left).expr tail laid.now) }
+pub fn expr<'a>(level: Level, tail: bool, ahead: Rest<'a>) -> Reading<'a, Expr>
+    ensures { Answers tree_of result ((levels_at level.pass level.left).expr tail ahead.now) }
 {
     let read = |left, tail, rest|
         requires { left < level.left }
         ensures { Answers tree_of result ((levels_at level.pass left).expr tail rest.now) }
     { expr(level.at(left), tail, rest) };
-    form(level, &read, tail, laid)
+    form(level, &read, tail, ahead)
 }

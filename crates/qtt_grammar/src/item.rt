@@ -1,7 +1,7 @@
 //! Items.
 
-ghost use Rattle.std.specs.Prelude.{◌≡◌, ◌<◌, [], ◌∷◌, suc, map};
-ghost use Rattle.qtt_phrase.specs.Reading.{cap_at, counted_at, begins};
+ghost use Rattle.std.specs.Prelude.{◌≡◌, ◌<◌, [], ◌∷◌, map};
+ghost use Rattle.qtt_phrase.specs.Reading.{cap_at, begins};
 ghost use Rattle.qtt_phrase.specs.Reading.Kind.{unexpected};
 ghost use Rattle.qtt_phrase.specs.Reading.Read.{got};
 ghost use Rattle.qtt_syntax.specs.Tree as tree;
@@ -24,25 +24,27 @@ use qtt_base::{Quantity, Span};
 use qtt_syntax::{Clause, ConDecl, FamilyDecl, Item, Local, Param, SignatureDecl};
 use qtt_usage::mult::Mult;
 
-// Why no other one is read, which a lexeme of this form begins, where as many as may be stand before.
-fn no_more<'a>(quantity: Quantity, class: Class, laid: Rest<'a>) -> Stop<'a>
-    ensures { Fails {A = tree.Item} result (cap_at (of (same class)) (λ _. unexpected) (λ x. one_above quantity x.place) laid.now) }
+// Why no other one is read, which a lexeme of this form begins, where as many as may be stand
+// before.
+fn no_more<'a>(quantity: Quantity, class: Class, ahead: Rest<'a>) -> Stop<'a>
+    ensures { Fails {A = tree.Item} result
+        (cap_at (of (same class)) (λ _. unexpected) (λ x. one_above quantity x.place) ahead.now) }
 {
-    match laid {
+    match ahead {
         [first, rest @ ..] if class.same(first.class) => {
             Stop::Over(one_above(quantity, first.place), rest)
         }
-        _ => Stop::Bad(Reason::Unexpected, laid),
+        _ => Stop::Bad(Reason::Unexpected, ahead),
     }
 }
 
 // A parameter of a family.
 #[tactic(auto, using(crate::proofs::Below::below_is, crate::proofs::Below::opens), unfolding(crate::specs::Readers::param_at))]
-fn param<'a>(level: Level, laid: Rest<'a>) -> Reading<'a, Param>
+fn param<'a>(level: Level, ahead: Rest<'a>) -> Reading<'a, Param>
     requires { 0 < level.left }
-    ensures { Answers param_of result (within param_at level.pass level.left laid.now) }
+    ensures { Answers param_of result (within param_at level.pass level.left ahead.now) }
 {
-    let (span, rest) = opener(Class::LeftParen, level.left, laid)?;
+    let (span, rest) = opener(Class::LeftParen, level.left, ahead)?;
     let (mult, rest) = zero(rest);
     let (name, rest) = simple_name(rest)?;
     let (_, rest) = symbol(Class::Colon, rest)?;
@@ -60,25 +62,28 @@ fn param<'a>(level: Level, laid: Rest<'a>) -> Reading<'a, Param>
 }
 
 // Another parameter, before which there are so many.
-fn another_param<'a>(level: Level, count: usize, laid: Rest<'a>) -> Reading<'a, Param>
+fn another_param<'a>(level: Level, count: usize, ahead: Rest<'a>) -> Reading<'a, Param>
     requires { 0 < level.left }
-    ensures { Answers param_of result (up_to_at level.pass Quantity.Parts (of is_left_paren) (λ _. unexpected) (within param_at level.pass level.left) count laid.now) }
+    ensures { Answers param_of result
+        (up_to_at level.pass Quantity.Parts (of is_left_paren) (λ _. unexpected)
+        (within param_at level.pass level.left) count ahead.now) }
 {
     if level.pass.is_full(Quantity::Parts, count) {
-        return Err(no_more(Quantity::Parts, Class::LeftParen, laid));
+        return Err(no_more(Quantity::Parts, Class::LeftParen, ahead));
     }
-    param(level, laid)
+    param(level, ahead)
 }
 
 /// The parameters of a family.
 #[tactic(auto, unfolding(crate::specs::Readers::params_at))]
-pub fn params<'a>(level: Level, laid: Rest<'a>) -> Reading<'a, Vec<Param>>
+pub fn params<'a>(level: Level, ahead: Rest<'a>) -> Reading<'a, Vec<Param>>
     requires { 0 < level.left }
-    ensures { Answers (λ v. map param_of v.items) result (within params_at level.pass level.left 0 laid.now) }
+    ensures { Answers (λ v. map param_of v.items) result
+        (within params_at level.pass level.left 0 ahead.now) }
 {
     let mut found = Vec::new(level.alloc);
-    let mut rest = laid;
-    'params: for _ in 0..laid.len() {
+    let mut rest = ahead;
+    'params: for _ in 0..ahead.len() {
         if !begins(Class::LeftParen, rest) {
             return Ok((found, rest));
         }
@@ -91,10 +96,10 @@ pub fn params<'a>(level: Level, laid: Rest<'a>) -> Reading<'a, Vec<Param>>
 
 // A constructor.
 #[tactic(auto, unfolding(crate::specs::Readers::con_at))]
-fn con<'a>(level: Level, laid: Rest<'a>) -> Reading<'a, ConDecl>
-    ensures { Answers con_of result (within con_at level.pass level.left laid.now) }
+fn con<'a>(level: Level, ahead: Rest<'a>) -> Reading<'a, ConDecl>
+    ensures { Answers con_of result (within con_at level.pass level.left ahead.now) }
 {
-    let (name, rest) = big_name(laid)?;
+    let (name, rest) = big_name(ahead)?;
     let (_, rest) = symbol(Class::Colon, rest)?;
     let (ty, rest) = typing(level, rest)?;
     let span = name.span;
@@ -110,10 +115,10 @@ fn con<'a>(level: Level, laid: Rest<'a>) -> Reading<'a, ConDecl>
 
 // Another constructor, before which there are so many.
 #[tactic(auto, unfolding(crate::specs::Readers::next_con_at))]
-fn next_con<'a>(level: Level, count: usize, laid: Rest<'a>) -> Reading<'a, ConDecl>
-    ensures { Answers con_of result (within next_con_at level.pass level.left count laid.now) }
+fn next_con<'a>(level: Level, count: usize, ahead: Rest<'a>) -> Reading<'a, ConDecl>
+    ensures { Answers con_of result (within next_con_at level.pass level.left count ahead.now) }
 {
-    let (_, rest) = symbol(Class::Next, laid)?;
+    let (_, rest) = symbol(Class::Next, ahead)?;
     if level.pass.is_full(Quantity::Constructors, count) {
         return Err(no_more(Quantity::Constructors, Class::Big, rest));
     }
@@ -122,13 +127,14 @@ fn next_con<'a>(level: Level, count: usize, laid: Rest<'a>) -> Reading<'a, ConDe
 
 // The constructors behind the first one.
 #[tactic(auto, unfolding(crate::specs::Readers::more_cons_at))]
-fn more_cons<'a>(level: Level, first: ConDecl, laid: Rest<'a>) -> Reading<'a, Vec<ConDecl>>
-    ensures { Answers (λ v. map con_of v.items) result (with_front (con_of first ∷ []) (within more_cons_at level.pass level.left 1 laid.now)) }
+fn more_cons<'a>(level: Level, first: ConDecl, ahead: Rest<'a>) -> Reading<'a, Vec<ConDecl>>
+    ensures { Answers (λ v. map con_of v.items) result
+        (with_front (con_of first ∷ []) (within more_cons_at level.pass level.left 1 ahead.now)) }
 {
     let mut found = Vec::new(level.alloc);
     found.push(first)?;
-    let mut rest = laid;
-    'cons: for _ in 0..laid.len() {
+    let mut rest = ahead;
+    'cons: for _ in 0..ahead.len() {
         if !begins(Class::Next, rest) {
             return Ok((found, rest));
         }
@@ -141,23 +147,24 @@ fn more_cons<'a>(level: Level, first: ConDecl, laid: Rest<'a>) -> Reading<'a, Ve
 
 // The constructors of a family.
 #[tactic(auto, unfolding(crate::specs::Readers::cons_at))]
-fn cons<'a>(level: Level, laid: Rest<'a>) -> Reading<'a, Vec<ConDecl>>
-    ensures { Answers (λ v. map con_of v.items) result (within cons_at level.pass level.left laid.now) }
+fn cons<'a>(level: Level, ahead: Rest<'a>) -> Reading<'a, Vec<ConDecl>>
+    ensures { Answers (λ v. map con_of v.items) result
+        (within cons_at level.pass level.left ahead.now) }
 {
-    if !begins(Class::Big, laid) {
-        return Ok((Vec::new(level.alloc), laid));
+    if !begins(Class::Big, ahead) {
+        return Ok((Vec::new(level.alloc), ahead));
     }
-    let (first, rest) = con(level, laid)?;
+    let (first, rest) = con(level, ahead)?;
     more_cons(level, first, rest)
 }
 
 /// A family.
 #[tactic(auto, unfolding(crate::specs::Readers::family_at))]
-pub fn family<'a>(level: Level, laid: Rest<'a>) -> Reading<'a, Item>
+pub fn family<'a>(level: Level, ahead: Rest<'a>) -> Reading<'a, Item>
     requires { 0 < level.left }
-    ensures { Answers item_of result (within family_at level.pass level.left laid.now) }
+    ensures { Answers item_of result (within family_at level.pass level.left ahead.now) }
 {
-    let (span, rest) = symbol(Class::Data, laid)?;
+    let (span, rest) = symbol(Class::Data, ahead)?;
     let (name, rest) = big_name(rest)?;
     let (params, rest) = params(level, rest)?;
     let (_, rest) = symbol(Class::Colon, rest)?;
@@ -180,21 +187,21 @@ pub fn family<'a>(level: Level, laid: Rest<'a>) -> Reading<'a, Item>
 }
 
 // A Next, if it is there.
-fn optional_next(laid: Rest<'_>) -> (Option<Span>, Rest<'_>)
-    ensures { next_at laid.now ≡ got result.0 result.1.now }
+fn optional_next(ahead: Rest<'_>) -> (Option<Span>, Rest<'_>)
+    ensures { next_at ahead.now ≡ got result.0 result.1.now }
 {
-    match laid {
+    match ahead {
         [first, rest @ ..] if Class::Next.same(first.class) => (Some(first.place), rest),
-        _ => (None, laid),
+        _ => (None, ahead),
     }
 }
 
 /// A signature that begins with `partial`.
 #[tactic(auto, unfolding(crate::specs::Readers::partial_at))]
-pub fn partial<'a>(level: Level, laid: Rest<'a>) -> Reading<'a, Item>
-    ensures { Answers item_of result (within partial_at level.pass level.left laid.now) }
+pub fn partial<'a>(level: Level, ahead: Rest<'a>) -> Reading<'a, Item>
+    ensures { Answers item_of result (within partial_at level.pass level.left ahead.now) }
 {
-    let (span, rest) = symbol(Class::Partial, laid)?;
+    let (span, rest) = symbol(Class::Partial, ahead)?;
     let (_, rest) = optional_next(rest);
     let (mult, rest) = zero(rest);
     let (name, rest) = simple_name(rest)?;
@@ -215,10 +222,10 @@ pub fn partial<'a>(level: Level, laid: Rest<'a>) -> Reading<'a, Item>
 
 /// A signature that begins with `0`.
 #[tactic(auto, unfolding(crate::specs::Readers::erased_at))]
-pub fn erased<'a>(level: Level, laid: Rest<'a>) -> Reading<'a, Item>
-    ensures { Answers item_of result (within erased_at level.pass level.left laid.now) }
+pub fn erased<'a>(level: Level, ahead: Rest<'a>) -> Reading<'a, Item>
+    ensures { Answers item_of result (within erased_at level.pass level.left ahead.now) }
 {
-    let (span, rest) = symbol(Class::Zero, laid)?;
+    let (span, rest) = symbol(Class::Zero, ahead)?;
     let (name, rest) = simple_name(rest)?;
     let (_, rest) = symbol(Class::Colon, rest)?;
     let (ty, rest) = typing(level, rest)?;
@@ -237,10 +244,10 @@ pub fn erased<'a>(level: Level, laid: Rest<'a>) -> Reading<'a, Item>
 
 /// A signature, behind its name.
 #[tactic(auto, unfolding(crate::specs::Readers::signing_at))]
-pub fn signing<'a>(level: Level, name: Local, laid: Rest<'a>) -> Reading<'a, Item>
-    ensures { Answers item_of result (within signing_at level.pass level.left name laid.now) }
+pub fn signing<'a>(level: Level, name: Local, ahead: Rest<'a>) -> Reading<'a, Item>
+    ensures { Answers item_of result (within signing_at level.pass level.left name ahead.now) }
 {
-    let (_, rest) = symbol(Class::Colon, laid)?;
+    let (_, rest) = symbol(Class::Colon, ahead)?;
     let (ty, rest) = typing(level, rest)?;
     let span = name.span;
     Ok((
@@ -258,10 +265,10 @@ pub fn signing<'a>(level: Level, name: Local, laid: Rest<'a>) -> Reading<'a, Ite
 
 /// A clause, behind its name.
 #[tactic(auto, unfolding(crate::specs::Readers::equation_at, crate::specs::Readers::clause_patterns_at))]
-pub fn equation<'a>(level: Level, name: Local, laid: Rest<'a>) -> Reading<'a, Item>
-    ensures { Answers item_of result (within equation_at level.pass level.left name laid.now) }
+pub fn equation<'a>(level: Level, name: Local, ahead: Rest<'a>) -> Reading<'a, Item>
+    ensures { Answers item_of result (within equation_at level.pass level.left name ahead.now) }
 {
-    let (patterns, rest) = patterns(level, laid)?;
+    let (patterns, rest) = patterns(level, ahead)?;
     let (_, rest) = symbol(Class::Equals, rest)?;
     let (side, rest) = expr(level, true, rest)?;
     let span = name.span;

@@ -44,12 +44,12 @@ pub fn inner<'a, E: Fn(u32, bool, Rest<'a>) -> Reading<'a, Expr>>(
     level: Level,
     read: &E,
     tail: bool,
-    laid: Rest<'a>,
+    ahead: Rest<'a>,
 ) -> Reading<'a, Expr>
     requires may { 0 < level.left }
     requires callable { MayReadBelow level.left (E.pre read.now) }
     requires reads { ReadsBelow level.pass level.left (E.post read.now) }
-    ensures { Answers tree_of result ((below level.pass level.left).expr tail laid.now) }
+    ensures { Answers tree_of result ((below level.pass level.left).expr tail ahead.now) }
 {
-    read(level.left - 1, tail, laid)
+    read(level.left - 1, tail, ahead)
 }

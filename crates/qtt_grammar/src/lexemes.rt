@@ -75,7 +75,8 @@ fn class_of(token: &Token) -> Class
 }
 
 fn name_of(alloc: Global, token: &Token) -> Result<Name, MemoryError>
-    ensures { IfOk result (λ name. name ≡ (token_lexeme token.now.kind token.now.span token.now.text).name) }
+    ensures { IfOk result (λ name. name ≡
+        (token_lexeme token.now.kind token.now.span token.now.text).name) }
 {
     match &token.kind {
         TokenKind::Name(name) => name.copy(),
@@ -94,7 +95,8 @@ pub fn new_name(alloc: Global, text: &str) -> Result<Name, MemoryError>
 }
 
 fn text_of(alloc: Global, token: &Token) -> Result<Bytes, MemoryError>
-    ensures { IfOk result (λ text. text ≡ (token_lexeme token.now.kind token.now.span token.now.text).text) }
+    ensures { IfOk result (λ text. text ≡
+        (token_lexeme token.now.kind token.now.span token.now.text).text) }
 {
     match &token.kind {
         TokenKind::Text(text) => text.copy(),
@@ -126,7 +128,8 @@ fn mark(alloc: Global, class: Class, place: Span, found: &[u8]) -> Result<Lexeme
 }
 
 fn token(alloc: Global, token: &Token) -> Result<Lexeme, MemoryError>
-    ensures { IfOk result (λ x. x ≡ record (token_lexeme token.now.kind token.now.span token.now.text) { found = token.now.text }) }
+    ensures { IfOk result (λ x. x ≡ record
+        (token_lexeme token.now.kind token.now.span token.now.text) { found = token.now.text }) }
 {
     Ok(Lexeme {
         class: class_of(token),

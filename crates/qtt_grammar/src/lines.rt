@@ -58,17 +58,20 @@ fn standing_of(statement: &Statement) -> Standing
 }
 
 // Why no other statement is read where as many as may be stand before.
-fn no_more<'a>(level: Level, tail: bool, laid: Rest<'a>) -> Stop<'a>
-    ensures { Fails {A = tree.Statement} result (cap_at (λ x. statement_starts (nat_lt 0 level.left) tail x.class) (λ x. bad_start (nat_lt 0 level.left) x.class) (λ x. one_above Quantity.Statements x.place) laid.now) }
+fn no_more<'a>(level: Level, tail: bool, ahead: Rest<'a>) -> Stop<'a>
+    ensures { Fails {A = tree.Statement} result
+        (cap_at (λ x. statement_starts (nat_lt 0 level.left) tail x.class)
+        (λ x. bad_start (nat_lt 0 level.left) x.class)
+        (λ x. one_above Quantity.Statements x.place) ahead.now) }
 {
-    match laid {
+    match ahead {
         [first, rest @ ..] if first.class.starts_statement(level.left > 0, tail) => {
             Stop::Over(one_above(Quantity::Statements, first.place), rest)
         }
         [first, ..] if level.left == 0 && first.class.opens_statement() => {
-            Stop::Bad(Reason::TooDeep, laid)
+            Stop::Bad(Reason::TooDeep, ahead)
         }
-        _ => Stop::Bad(Reason::Unexpected, laid),
+        _ => Stop::Bad(Reason::Unexpected, ahead),
     }
 }
 
@@ -80,14 +83,15 @@ pub fn line<'a, E: Fn(u32, bool, Rest<'a>) -> Reading<'a, Expr>>(
     tail: bool,
     count: usize,
     standing: Standing,
-    laid: Rest<'a>,
+    ahead: Rest<'a>,
 ) -> Reading<'a, Statement>
     requires may { 0 < level.left }
     requires callable { MayReadBelow level.left (E.pre read.now) }
     requires reads { ReadsBelow level.pass level.left (E.post read.now) }
-    ensures { Answers statement_of result (inside line_at level.pass level.left tail (count, standing) laid.now) }
+    ensures { Answers statement_of result
+        (inside line_at level.pass level.left tail (count, standing) ahead.now) }
 {
-    let (_, rest) = symbol(Class::Next, laid)?;
+    let (_, rest) = symbol(Class::Next, ahead)?;
     if level.pass.is_full(Quantity::Statements, count) {
         return Err(no_more(level.below(), tail, rest));
     }
@@ -95,12 +99,12 @@ pub fn line<'a, E: Fn(u32, bool, Rest<'a>) -> Reading<'a, Expr>>(
 }
 
 // Whether another statement comes.
-fn goes_on(standing: Standing, laid: Rest<'_>) -> bool
-    ensures { result ≡ (may_go (0, standing) && begins (of is_next) laid.now) }
+fn goes_on(standing: Standing, ahead: Rest<'_>) -> bool
+    ensures { result ≡ (may_go (0, standing) && begins (of is_next) ahead.now) }
 {
     match standing {
         Standing::Last => false,
-        Standing::Before | Standing::Within => begins(Class::Next, laid),
+        Standing::Before | Standing::Within => begins(Class::Next, ahead),
     }
 }
 
@@ -108,13 +112,14 @@ fn goes_on(standing: Standing, laid: Rest<'_>) -> bool
 fn ended<'a>(
     found: Vec<Statement>,
     standing: Standing,
-    laid: Rest<'a>,
+    ahead: Rest<'a>,
 ) -> Reading<'a, Vec<Statement>>
-    ensures { Answers (λ v. map statement_of v.items) result (with_front (map statement_of found.items) (ended (may_end (0, standing)) laid.now)) }
+    ensures { Answers (λ v. map statement_of v.items) result
+        (with_front (map statement_of found.items) (ended (may_end (0, standing)) ahead.now)) }
 {
     match standing {
-        Standing::Before => Err(Stop::Bad(Reason::Unexpected, laid)),
-        Standing::Within | Standing::Last => Ok((found, laid)),
+        Standing::Before => Err(Stop::Bad(Reason::Unexpected, ahead)),
+        Standing::Within | Standing::Last => Ok((found, ahead)),
     }
 }
 
@@ -125,18 +130,21 @@ pub fn lines<'a, E: Fn(u32, bool, Rest<'a>) -> Reading<'a, Expr>>(
     read: &E,
     tail: bool,
     first: Statement,
-    laid: Rest<'a>,
+    ahead: Rest<'a>,
 ) -> Reading<'a, Vec<Statement>>
     requires may { 0 < level.left }
     requires callable { MayReadBelow level.left (E.pre read.now) }
     requires reads { ReadsBelow level.pass level.left (E.post read.now) }
-    ensures { Answers (λ v. map statement_of v.items) result (with_front (statement_of first ∷ []) (inside lines_at level.pass level.left tail (1, standing_of (statement_of first)) laid.now)) }
+    ensures { Answers (λ v. map statement_of v.items) result
+        (with_front (statement_of first ∷ [])
+        (inside lines_at level.pass level.left tail (1, standing_of (statement_of first))
+        ahead.now)) }
 {
     let mut standing = standing_of(&first);
     let mut found = Vec::new(level.alloc);
     found.push(first)?;
-    let mut rest = laid;
-    'lines: for _ in 0..laid.len() {
+    let mut rest = ahead;
+    'lines: for _ in 0..ahead.len() {
         if !goes_on(standing, rest) {
             return ended(found, standing, rest);
         }
@@ -154,14 +162,15 @@ pub fn statements<'a, E: Fn(u32, bool, Rest<'a>) -> Reading<'a, Expr>>(
     level: Level,
     read: &E,
     tail: bool,
-    laid: Rest<'a>,
+    ahead: Rest<'a>,
 ) -> Reading<'a, Vec<Statement>>
     requires may { 0 < level.left }
     requires callable { MayReadBelow level.left (E.pre read.now) }
     requires reads { ReadsBelow level.pass level.left (E.post read.now) }
-    ensures { Answers (λ v. map statement_of v.items) result (making_at both (inside block_at level.pass level.left tail) laid.now) }
+    ensures { Answers (λ v. map statement_of v.items) result
+        (making_at both (inside block_at level.pass level.left tail) ahead.now) }
 {
-    let (first, rest) = statement(level.below(), read, tail, laid)?;
+    let (first, rest) = statement(level.below(), read, tail, ahead)?;
     lines(level, read, tail, first, rest)
 }
 
@@ -171,13 +180,13 @@ pub fn doing<'a, E: Fn(u32, bool, Rest<'a>) -> Reading<'a, Expr>>(
     level: Level,
     read: &E,
     tail: bool,
-    laid: Rest<'a>,
+    ahead: Rest<'a>,
 ) -> Reading<'a, Expr>
     requires callable { MayReadBelow level.left (E.pre read.now) }
     requires reads { ReadsBelow level.pass level.left (E.post read.now) }
-    ensures { Answers tree_of result (inside doing_at level.pass level.left tail laid.now) }
+    ensures { Answers tree_of result (inside doing_at level.pass level.left tail ahead.now) }
 {
-    let (span, rest) = opener(Class::Do, level.left, laid)?;
+    let (span, rest) = opener(Class::Do, level.left, ahead)?;
     let (_, rest) = symbol(Class::Open, rest)?;
     let (statements, rest) = statements(level, read, tail, rest)?;
     let (_, rest) = symbol(Class::Close, rest)?;

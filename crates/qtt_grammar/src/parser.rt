@@ -99,7 +99,8 @@ fn above(alloc: Global, excess: Excess) -> Result<Fault, MemoryError>
 
 // What is told of a text where reading stopped.
 fn refused(alloc: Global, stop: Stop<'_>) -> Result<Fault, MemoryError>
-    ensures { IfOk result (λ fault. (read : Read Lexeme Excess Module) → Fails stop.entry read → whole read ≡ Err (seen fault)) }
+    ensures { IfOk result (λ fault. (read : Read Lexeme Excess Module) → Fails stop.entry read →
+        whole read ≡ Err (seen fault)) }
 {
     match stop {
         Stop::Memory => Err(MemoryError),
@@ -117,7 +118,8 @@ fn is_before(one: Span, other: Span) -> bool
 
 // What is told of a text in which an index or field is one too many.
 fn exceeded<'a>(read: Reading<'a, ModuleText>, excess: Excess, rest: Rest<'a>) -> Stop<'a>
-    ensures { (first : Read Lexeme Excess Module) → Answers module_of read.entry first → Fails result (joined first (over excess rest.now)) }
+    ensures { (first : Read Lexeme Excess Module) → Answers module_of read.entry first →
+        Fails result (joined first (over excess rest.now)) }
 {
     match read {
         Err(Stop::Memory) => Stop::Memory,
@@ -150,23 +152,32 @@ fn parse_lexemes(alloc: Global, lexemes: &[Lexeme]) -> Result<ModuleText, Gramma
     }
 }
 
-/// The tree of a text, or its first fault: kind 8 at a token that no text has behind those before it, with the found word; kind 9 at
-/// the token that opens level 201; kind 31 for the limits on items, clauses, constructors, parameters, patterns, statements, the bytes
-/// of a text and the number after `Type`, and at the first token of an index or field that is the 101st, with the words of the
-/// quantity and its count.
+/// The tree of a text, or its first fault: kind 8 at a token that no text has behind those
+/// before it, with the found word; kind 9 at the token that opens level 201; kind 31 for the
+/// limits on items, clauses, constructors, parameters, patterns, statements, the bytes of a text
+/// and the number after `Type`, and at the first token of an index or field that is the 101st,
+/// with the words of the quantity and its count.
 pub fn parse(alloc: Global, laid: &[Laid]) -> Result<ModuleText, GrammarError>
     // Exactly the tree, or the first fault.
     ensures exact { Gives result (parsed laid.now) }
     // The answer is the tree of a text, no index or field of which is one too many.
-    ensures text { IfOk result (λ text. IsText Pass.Counts (lexemes laid.now) (module_of text) None × Never (Exceeds (lexemes laid.now))) }
+    ensures text { IfOk result
+        (λ text. IsText Pass.Counts (lexemes laid.now) (module_of text) None ×
+        Never (Exceeds (lexemes laid.now))) }
     // Each text within the limit on indices and fields has its only tree as the answer.
-    ensures texts { (t : Module) → IsText Pass.Counts (lexemes laid.now) t None → Never (Exceeds (lexemes laid.now)) → Gives result (Ok t) }
+    ensures texts { (t : Module) → IsText Pass.Counts (lexemes laid.now) t None →
+        Never (Exceeds (lexemes laid.now)) → Gives result (Ok t) }
     // A fault is the first limit that is passed, or else the first bad token.
     ensures fault { IfErr result (KeepsFault (lexemes laid.now)) }
     // Each limit that is passed first is told.
-    ensures limit { (e : Excess) → HasOutcome (lexemes laid.now) (passed e) → Gives result (Err (above e)) }
+    ensures limit { (e : Excess) → HasOutcome (lexemes laid.now) (passed e) →
+        Gives result (Err (above e)) }
     // Where the tokens are no text and pass no limit, the first bad one is told.
-    ensures bad { (kind : Kind) (rest : List Lexeme) (first : FirstBad (IsText Pass.Counts) (lexemes laid.now) rest) → HasKind kind first.front rest → IsWithin (lexemes laid.now) → ((t : Module) → IsText Pass.Counts (lexemes laid.now) t None → ⊥) → Gives result (Err (bad_token kind rest)) }
+    ensures bad { (kind : Kind) (rest : List Lexeme)
+        (first : FirstBad (IsText Pass.Counts) (lexemes laid.now) rest) →
+        HasKind kind first.front rest → IsWithin (lexemes laid.now) →
+        ((t : Module) → IsText Pass.Counts (lexemes laid.now) t None → ⊥) →
+        Gives result (Err (bad_token kind rest)) }
 {
     let lexemes = lexemes(alloc, laid)?;
     parse_lexemes(alloc, lexemes.as_slice())

@@ -22,26 +22,29 @@ use qtt_base::{Quantity, Span};
 use qtt_syntax::{Mark, Named, Pattern};
 
 // Why no other pattern is read where as many as may be stand before.
-fn no_more<'a>(level: Level, laid: Rest<'a>) -> Stop<'a>
-    ensures { Fails {A = tree.Shape} result (cap_at (λ x. pattern_starts (nat_lt 0 level.left) x.class) (λ x. bad_pattern_start (nat_lt 0 level.left) x.class) (λ x. one_above Quantity.Parts x.place) laid.now) }
+fn no_more<'a>(level: Level, ahead: Rest<'a>) -> Stop<'a>
+    ensures { Fails {A = tree.Shape} result
+        (cap_at (λ x. pattern_starts (nat_lt 0 level.left) x.class)
+        (λ x. bad_pattern_start (nat_lt 0 level.left) x.class)
+        (λ x. one_above Quantity.Parts x.place) ahead.now) }
 {
-    match laid {
+    match ahead {
         [first, ..] if level.left == 0 && first.class.opens_pattern() => {
-            Stop::Bad(Reason::TooDeep, laid)
+            Stop::Bad(Reason::TooDeep, ahead)
         }
         [first, rest @ ..] if first.class.starts_pattern() => {
             Stop::Over(one_above(Quantity::Parts, first.place), rest)
         }
-        _ => Stop::Bad(Reason::Unexpected, laid),
+        _ => Stop::Bad(Reason::Unexpected, ahead),
     }
 }
 
 // `.(e)`
 #[tactic(auto, using(crate::proofs::Below::below_is), unfolding(crate::specs::Readers::dot_at))]
-fn dot<'a>(level: Level, laid: Rest<'a>) -> Reading<'a, Pattern>
-    ensures { Answers shape_of result (inside dot_at level.pass level.left laid.now) }
+fn dot<'a>(level: Level, ahead: Rest<'a>) -> Reading<'a, Pattern>
+    ensures { Answers shape_of result (inside dot_at level.pass level.left ahead.now) }
 {
-    let (span, rest) = opener(Class::DotParen, level.left, laid)?;
+    let (span, rest) = opener(Class::DotParen, level.left, ahead)?;
     let (value, rest) = expr(level.below(), false, rest)?;
     let (_, rest) = symbol(Class::RightParen, rest)?;
     Ok((
@@ -78,10 +81,10 @@ fn group(head: Named, arguments: Vec<Pattern>, span: Span) -> Pattern
 // A constructor with the patterns of its fields in brackets, or a pattern in brackets.
 #[cycle(pattern)]
 #[tactic(auto, using(crate::proofs::Below::below_is), unfolding(crate::specs::Readers::bracketed_at, crate::specs::Readers::inside_at))]
-fn bracketed<'a>(level: Level, laid: Rest<'a>) -> Reading<'a, Pattern>
-    ensures { Answers shape_of result (inside bracketed_at level.pass level.left laid.now) }
+fn bracketed<'a>(level: Level, ahead: Rest<'a>) -> Reading<'a, Pattern>
+    ensures { Answers shape_of result (inside bracketed_at level.pass level.left ahead.now) }
 {
-    let (span, rest) = opener(Class::LeftParen, level.left, laid)?;
+    let (span, rest) = opener(Class::LeftParen, level.left, ahead)?;
     if !begins_constructor(rest) {
         let (inner, rest) = pattern(level.below(), rest)?;
         let (_, rest) = symbol(Class::RightParen, rest)?;
@@ -96,23 +99,26 @@ fn bracketed<'a>(level: Level, laid: Rest<'a>) -> Reading<'a, Pattern>
 // Another pattern, before which there are so many.
 #[cycle(pattern)]
 #[tactic(auto, using(crate::proofs::Below::level_is))]
-fn another<'a>(level: Level, count: usize, laid: Rest<'a>) -> Reading<'a, Pattern>
-    ensures { Answers shape_of result (one_pattern_at level.pass (levels_at level.pass level.left) count laid.now) }
+fn another<'a>(level: Level, count: usize, ahead: Rest<'a>) -> Reading<'a, Pattern>
+    ensures { Answers shape_of result
+        (one_pattern_at level.pass (levels_at level.pass level.left) count ahead.now) }
 {
     if level.pass.is_full(Quantity::Parts, count) {
-        return Err(no_more(level, laid));
+        return Err(no_more(level, ahead));
     }
-    pattern(level, laid)
+    pattern(level, ahead)
 }
 
 /// Any number of patterns, up to the limit.
 #[cycle(pattern)]
-pub fn patterns<'a>(level: Level, laid: Rest<'a>) -> Reading<'a, Vec<Pattern>>
-    ensures { Answers (λ v. map shape_of v.items) result (counted_at (λ n _. suc n) (of starts_pattern) (one_pattern_at level.pass (levels_at level.pass level.left)) 0 laid.now) }
+pub fn patterns<'a>(level: Level, ahead: Rest<'a>) -> Reading<'a, Vec<Pattern>>
+    ensures { Answers (λ v. map shape_of v.items) result
+        (counted_at (λ n _. suc n) (of starts_pattern)
+        (one_pattern_at level.pass (levels_at level.pass level.left)) 0 ahead.now) }
 {
     let mut found = Vec::new(level.alloc);
-    let mut rest = laid;
-    'patterns: for _ in 0..laid.len() {
+    let mut rest = ahead;
+    'patterns: for _ in 0..ahead.len() {
         if !begins_pattern(rest) {
             return Ok((found, rest));
         }
@@ -126,24 +132,25 @@ pub fn patterns<'a>(level: Level, laid: Rest<'a>) -> Reading<'a, Vec<Pattern>>
 /// A pattern of a level.
 #[cycle(pattern)]
 #[tactic(auto, using(crate::proofs::Below::level_is), unfolding(crate::specs::Readers::pattern_at, crate::specs::Readers::other_pattern_at))]
-pub fn pattern<'a>(level: Level, laid: Rest<'a>) -> Reading<'a, Pattern>
-    ensures { Answers shape_of result ((levels_at level.pass level.left).pattern laid.now) }
+pub fn pattern<'a>(level: Level, ahead: Rest<'a>) -> Reading<'a, Pattern>
+    ensures { Answers shape_of result ((levels_at level.pass level.left).pattern ahead.now) }
 {
-    if begins_constructor(laid) {
-        return constructor(level, laid);
+    if begins_constructor(ahead) {
+        return constructor(level, ahead);
     }
-    match laid {
-        [first, ..] if first.class.is_pattern_word() => pattern_word(laid),
-        _ if begins(Class::DotParen, laid) => dot(level, laid),
-        _ => bracketed(level, laid),
+    match ahead {
+        [first, ..] if first.class.is_pattern_word() => pattern_word(ahead),
+        _ if begins(Class::DotParen, ahead) => dot(level, ahead),
+        _ => bracketed(level, ahead),
     }
 }
 
 // A constructor without brackets.
-fn constructor<'a>(level: Level, laid: Rest<'a>) -> Reading<'a, Pattern>
-    ensures { Answers shape_of result (making_at bare_of (token_at (λ _. None) (of is_constructor) named_of) laid.now) }
+fn constructor<'a>(level: Level, ahead: Rest<'a>) -> Reading<'a, Pattern>
+    ensures { Answers shape_of result
+        (making_at bare_of (token_at (λ _. None) (of is_constructor) named_of) ahead.now) }
 {
-    let (head, rest) = used_constructor(laid)?;
+    let (head, rest) = used_constructor(ahead)?;
     let span = head.span;
     Ok((
         Pattern::Constructor {
@@ -157,10 +164,11 @@ fn constructor<'a>(level: Level, laid: Rest<'a>) -> Reading<'a, Pattern>
 }
 
 // A variable or `_`.
-fn pattern_word<'a>(laid: Rest<'a>) -> Reading<'a, Pattern>
-    ensures { Answers shape_of result (token_at (λ _. None) (of is_pattern_word) (λ x. pattern_word x.class x) laid.now) }
+fn pattern_word<'a>(ahead: Rest<'a>) -> Reading<'a, Pattern>
+    ensures { Answers shape_of result
+        (token_at (λ _. None) (of is_pattern_word) (λ x. pattern_word x.class x) ahead.now) }
 {
-    match laid {
+    match ahead {
         [first, rest @ ..] if Class::Small.same(first.class) => Ok((
             Pattern::Variable {
                 mark: Mark::Written,
@@ -176,6 +184,6 @@ fn pattern_word<'a>(laid: Rest<'a>) -> Reading<'a, Pattern>
             },
             rest,
         )),
-        _ => Err(Stop::Bad(Reason::Unexpected, laid)),
+        _ => Err(Stop::Bad(Reason::Unexpected, ahead)),
     }
 }

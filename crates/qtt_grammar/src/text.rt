@@ -1,6 +1,6 @@
 //! Whole texts.
 
-ghost use Rattle.std.specs.Prelude.{◌≡◌, ◌<◌};
+ghost use Rattle.std.specs.Prelude.{◌<◌};
 ghost use Rattle.qtt_phrase.specs.Reading.{cap_at, making_at};
 ghost use Rattle.qtt_phrase.specs.Reading.Kind.{unexpected};
 ghost use Rattle.qtt_syntax.specs.Tree as tree;
@@ -23,49 +23,55 @@ use qtt_syntax::{Import, Item, Local, ModuleText};
 use std::alloc::Global;
 
 // Why no other clause of a name is read, where as many as may be stand before.
-fn no_clause<'a>(name: Span, laid: Rest<'a>) -> Stop<'a>
-    ensures { Fails {A = tree.Item} result (cap_at (of starts_equation) (λ _. unexpected) (λ _. one_above Quantity.Clauses name) laid.now) }
+fn no_clause<'a>(name: Span, ahead: Rest<'a>) -> Stop<'a>
+    ensures { Fails {A = tree.Item} result
+        (cap_at (of starts_equation) (λ _. unexpected) (λ _. one_above Quantity.Clauses name)
+        ahead.now) }
 {
-    match laid {
+    match ahead {
         [first, rest @ ..] if first.class.starts_equation() => {
             Stop::Over(one_above(Quantity::Clauses, name), rest)
         }
-        _ => Stop::Bad(Reason::Unexpected, laid),
+        _ => Stop::Bad(Reason::Unexpected, ahead),
     }
 }
 
 // Why no other item is read, where as many as may be stand before.
-fn no_item<'a>(laid: Rest<'a>) -> Stop<'a>
-    ensures { Fails {A = tree.Item} result (cap_at (of starts_item) (λ _. unexpected) (λ x. one_above Quantity.Items x.place) laid.now) }
+fn no_item<'a>(ahead: Rest<'a>) -> Stop<'a>
+    ensures { Fails {A = tree.Item} result
+        (cap_at (of starts_item) (λ _. unexpected) (λ x. one_above Quantity.Items x.place)
+        ahead.now) }
 {
-    match laid {
+    match ahead {
         [first, rest @ ..] if first.class.starts_item() => {
             Stop::Over(one_above(Quantity::Items, first.place), rest)
         }
-        _ => Stop::Bad(Reason::Unexpected, laid),
+        _ => Stop::Bad(Reason::Unexpected, ahead),
     }
 }
 
 // A clause, behind its name.
 #[tactic(auto, unfolding(crate::specs::Readers::clause_at))]
-fn clause<'a>(level: Level, body: &Body, name: Local, laid: Rest<'a>) -> Reading<'a, Item>
-    ensures { Answers item_of result (within clause_at level.pass level.left (place_of body.now) name laid.now) }
+fn clause<'a>(level: Level, body: &Body, name: Local, ahead: Rest<'a>) -> Reading<'a, Item>
+    ensures { Answers item_of result
+        (within clause_at level.pass level.left (place_of body.now) name ahead.now) }
 {
     if level
         .pass
         .is_full(Quantity::Clauses, body.clauses_before(&name.name))
     {
-        return Err(no_clause(name.span, laid));
+        return Err(no_clause(name.span, ahead));
     }
-    equation(level, name, laid)
+    equation(level, name, ahead)
 }
 
 // A signature or a clause.
 #[tactic(auto, unfolding(crate::specs::Readers::defining_at))]
-fn defining<'a>(level: Level, body: &Body, laid: Rest<'a>) -> Reading<'a, Item>
-    ensures { Answers item_of result (within defining_at level.pass level.left (place_of body.now) laid.now) }
+fn defining<'a>(level: Level, body: &Body, ahead: Rest<'a>) -> Reading<'a, Item>
+    ensures { Answers item_of result
+        (within defining_at level.pass level.left (place_of body.now) ahead.now) }
 {
-    let (name, rest) = simple_name(laid)?;
+    let (name, rest) = simple_name(ahead)?;
     if begins(Class::Colon, rest) {
         signing(level, name, rest)
     } else {
@@ -75,38 +81,43 @@ fn defining<'a>(level: Level, body: &Body, laid: Rest<'a>) -> Reading<'a, Item>
 
 // An item.
 #[tactic(auto, unfolding(crate::specs::Readers::item_at))]
-fn item<'a>(level: Level, body: &Body, laid: Rest<'a>) -> Reading<'a, Item>
+fn item<'a>(level: Level, body: &Body, ahead: Rest<'a>) -> Reading<'a, Item>
     requires { 0 < level.left }
-    ensures { Answers item_of result (within item_at level.pass level.left (place_of body.now) laid.now) }
+    ensures { Answers item_of result
+        (within item_at level.pass level.left (place_of body.now) ahead.now) }
 {
-    if begins(Class::Data, laid) {
-        family(level, laid)
-    } else if begins(Class::Partial, laid) {
-        partial(level, laid)
-    } else if begins(Class::Zero, laid) {
-        erased(level, laid)
+    if begins(Class::Data, ahead) {
+        family(level, ahead)
+    } else if begins(Class::Partial, ahead) {
+        partial(level, ahead)
+    } else if begins(Class::Zero, ahead) {
+        erased(level, ahead)
     } else {
-        defining(level, body, laid)
+        defining(level, body, ahead)
     }
 }
 
 // An item, up to the limit.
-fn another_item<'a>(level: Level, body: &Body, laid: Rest<'a>) -> Reading<'a, Item>
+fn another_item<'a>(level: Level, body: &Body, ahead: Rest<'a>) -> Reading<'a, Item>
     requires { 0 < level.left }
-    ensures { Answers item_of result (up_to_at level.pass Quantity.Items (of starts_item) (λ _. unexpected) (within item_at level.pass level.left (place_of body.now)) (place_of body.now).items laid.now) }
+    ensures { Answers item_of result
+        (up_to_at level.pass Quantity.Items (of starts_item) (λ _. unexpected)
+        (within item_at level.pass level.left (place_of body.now))
+        (place_of body.now).items ahead.now) }
 {
     if level.pass.is_full(Quantity::Items, body.items.len()) {
-        return Err(no_item(laid));
+        return Err(no_item(ahead));
     }
-    item(level, body, laid)
+    item(level, body, ahead)
 }
 
 // An import, which stands before the first item.
 #[tactic(auto, unfolding(crate::specs::Readers::import_at))]
-fn import<'a>(level: Level, body: &Body, laid: Rest<'a>) -> Reading<'a, Import>
-    ensures { Answers imported result (within import_at level.pass level.left (place_of body.now) laid.now) }
+fn import<'a>(level: Level, body: &Body, ahead: Rest<'a>) -> Reading<'a, Import>
+    ensures { Answers imported result
+        (within import_at level.pass level.left (place_of body.now) ahead.now) }
 {
-    match laid {
+    match ahead {
         [first, rest @ ..] if body.items.is_empty() && Class::Import.same(first.class) => {
             let (name, rest) = any_name(rest)?;
             Ok((
@@ -117,17 +128,18 @@ fn import<'a>(level: Level, body: &Body, laid: Rest<'a>) -> Reading<'a, Import>
                 rest,
             ))
         }
-        _ => Err(Stop::Bad(Reason::Unexpected, laid)),
+        _ => Err(Stop::Bad(Reason::Unexpected, ahead)),
     }
 }
 
 // A Next with an import or an item.
 #[tactic(auto, unfolding(crate::specs::Readers::entry_at))]
-fn entry<'a>(level: Level, body: &Body, laid: Rest<'a>) -> Reading<'a, Entry>
+fn entry<'a>(level: Level, body: &Body, ahead: Rest<'a>) -> Reading<'a, Entry>
     requires { 0 < level.left }
-    ensures { Answers entry_of result (within entry_at level.pass level.left (place_of body.now) laid.now) }
+    ensures { Answers entry_of result
+        (within entry_at level.pass level.left (place_of body.now) ahead.now) }
 {
-    let (_, rest) = symbol(Class::Next, laid)?;
+    let (_, rest) = symbol(Class::Next, ahead)?;
     if begins(Class::Import, rest) {
         let (import, rest) = import(level, body, rest)?;
         return Ok((Entry::Import(import), rest));
@@ -138,13 +150,14 @@ fn entry<'a>(level: Level, body: &Body, laid: Rest<'a>) -> Reading<'a, Entry>
 
 // All imports and items.
 #[tactic(auto, unfolding(crate::specs::Readers::entries_at))]
-fn entries<'a>(level: Level, laid: Rest<'a>) -> Reading<'a, Body>
+fn entries<'a>(level: Level, ahead: Rest<'a>) -> Reading<'a, Body>
     requires { 0 < level.left }
-    ensures { Answers body_of result (making_at parts_of (within entries_at level.pass level.left start) laid.now) }
+    ensures { Answers body_of result
+        (making_at parts_of (within entries_at level.pass level.left start) ahead.now) }
 {
     let mut body = Body::new(level.alloc)?;
-    let mut rest = laid;
-    'entries: for _ in 0..laid.len() {
+    let mut rest = ahead;
+    'entries: for _ in 0..ahead.len() {
         if !begins(Class::Next, rest) {
             return Ok((body, rest));
         }
@@ -156,11 +169,11 @@ fn entries<'a>(level: Level, laid: Rest<'a>) -> Reading<'a, Body>
 }
 
 #[tactic(auto, unfolding(crate::specs::Readers::module_at))]
-fn module<'a>(level: Level, laid: Rest<'a>) -> Reading<'a, ModuleText>
+fn module<'a>(level: Level, ahead: Rest<'a>) -> Reading<'a, ModuleText>
     requires { 0 < level.left }
-    ensures { Answers module_of result (within module_at level.pass level.left laid.now) }
+    ensures { Answers module_of result (within module_at level.pass level.left ahead.now) }
 {
-    let (_, rest) = symbol(Class::Open, laid)?;
+    let (_, rest) = symbol(Class::Open, ahead)?;
     let (header, rest) = symbol(Class::Module, rest)?;
     let (name, rest) = any_name(rest)?;
     let (body, rest) = entries(level, rest)?;
@@ -179,9 +192,9 @@ fn module<'a>(level: Level, laid: Rest<'a>) -> Reading<'a, ModuleText>
 
 /// A module's text.
 #[tactic(auto, using(crate::proofs::Below::below_is), unfolding(crate::specs::Readers::text_at))]
-pub fn text<'a>(alloc: Global, pass: Pass, laid: Rest<'a>) -> Reading<'a, ModuleText>
-    ensures { Answers module_of result (text_at pass laid.now) }
+pub fn text<'a>(alloc: Global, pass: Pass, ahead: Rest<'a>) -> Reading<'a, ModuleText>
+    ensures { Answers module_of result (text_at pass ahead.now) }
 {
     let left = 200;
-    module(Level { alloc, pass, left }, laid)
+    module(Level { alloc, pass, left }, ahead)
 }

@@ -16,22 +16,23 @@ use qtt_syntax::{Expr, Mark};
 use qtt_usage::mult::Mult;
 
 // A brace binder's mark, which is `0`.
-pub fn erased<'a>(laid: Rest<'a>) -> Reading<'a, Mult>
-    ensures { Answers (λ m. m) result (token_at (λ _. None) (of is_zero) (λ x. mult_of x.class) laid.now) }
+pub fn erased<'a>(ahead: Rest<'a>) -> Reading<'a, Mult>
+    ensures { Answers (λ m. m) result
+        (token_at (λ _. None) (of is_zero) (λ x. mult_of x.class) ahead.now) }
 {
-    let (_, rest) = symbol(Class::Zero, laid)?;
+    let (_, rest) = symbol(Class::Zero, ahead)?;
     Ok((Mult::Zero, rest))
 }
 
 /// A type with its brace binders.
 #[tactic(auto, using(crate::proofs::Below::below_is, crate::proofs::Below::level_is), unfolding(crate::specs::Readers::typing_at, crate::specs::Readers::implicit_at))]
-pub fn typing<'a>(level: Level, laid: Rest<'a>) -> Reading<'a, Expr>
-    ensures { Answers tree_of result ((levels_at level.pass level.left).typing laid.now) }
+pub fn typing<'a>(level: Level, ahead: Rest<'a>) -> Reading<'a, Expr>
+    ensures { Answers tree_of result ((levels_at level.pass level.left).typing ahead.now) }
 {
-    if !begins(Class::LeftBrace, laid) {
-        return expr(level, false, laid);
+    if !begins(Class::LeftBrace, ahead) {
+        return expr(level, false, ahead);
     }
-    let (span, rest) = opener(Class::LeftBrace, level.left, laid)?;
+    let (span, rest) = opener(Class::LeftBrace, level.left, ahead)?;
     let (mult, rest) = erased(rest)?;
     let (name, rest) = simple_name(rest)?;
     let (_, rest) = symbol(Class::Colon, rest)?;

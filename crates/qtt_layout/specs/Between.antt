@@ -25,7 +25,8 @@ PutsNext (Some block) span old new found = (found ≡ true) × Adds old new (nex
 -- the marks before a token were put, or there are none since it stands left of the outermost block
 abbrev pub PutsBefore : State → Option Put → Marks → Marks → State → Bool → Type 0
 PutsBefore s None old new after found = found ≡ false
-PutsBefore s (Some put) old new after found = (found ≡ true) × Adds old new put.marks × (after ≡ with_blocks s put.blocks)
+PutsBefore s (Some put) old new after found =
+    (found ≡ true) × Adds old new put.marks × (after ≡ with_blocks s put.blocks)
 
 -- the same for the token and the marks before it
 abbrev pub Lays : Role → State → Token → Option Put → Marks → Marks → State → Bool → Type 0

@@ -41,7 +41,8 @@ abbrev pub has_end : List Token → Bool
 has_end [] = false
 has_end (t ∷ ts) = ends_by (role_of t.kind) (has_end ts)
 
--- how many blocks are open behind marks, where so many are open before them; there is no number where a block closes that is not open
+-- how many blocks are open behind marks, where so many are open before them; there is no number where a block
+-- closes that is not open
 abbrev pub open_behind : ℕ → List Laid → Option ℕ
 open_behind n [] = Some n
 open_behind n (Open s ∷ ms) = open_behind (suc n) ms

@@ -86,7 +86,11 @@ aligned_at s span =
 -- by the column of a token
 abbrev pub by_column : State → Token → Option Put
 by_column s t =
-    if opens s t then Some (record { marks = Open t.span ∷ []; blocks = s.blocks ++ record { col = t.span.col; brackets = s.brackets } ∷ [] })
+    if opens s t then Some (record {
+      marks = Open t.span ∷ [];
+      blocks = s.blocks ++ record { col = t.span.col; brackets = s.brackets } ∷
+          [];
+    })
     else (if t.span.line == s.line then Some (record { marks = empty_block s t.span; blocks = s.blocks })
     else aligned_at s t.span)
 
@@ -138,7 +142,8 @@ abbrev pub put_before : List Laid → Result (List Laid) Mistake → Result (Lis
 put_before marks (Ok rest) = Ok (marks ++ rest)
 put_before marks (Err m) = Err m
 
-abbrev pub by_put : Role → State → Token → Option Put → (State → Result (List Laid) Mistake) → Result (List Laid) Mistake
+abbrev pub by_put : Role → State → Token → Option Put → (State → Result (List Laid) Mistake) →
+    Result (List Laid) Mistake
 by_put r s t None rest = Err (bad_indent t)
 by_put r s t (Some put) rest = put_before (put.marks ++ added r s t put.blocks) (rest (behind r s t put.blocks))
 

@@ -5,7 +5,6 @@ ghost use Rattle.qtt_layout.specs.Rules.{closed_by, brackets_behind, item_of};
 ghost use Rattle.qtt_layout.specs.Written.{Adds};
 
 use crate::block::{Block, right_of, since_bracket};
-use crate::laid::Laid;
 use crate::marks::Marks;
 use crate::role::Role;
 use qtt_base::{MemoryError, Span};
@@ -63,7 +62,8 @@ impl Between {
     fn open(&mut self, span: Span, marks: &mut Marks) -> Result<(), MemoryError>
         ensures marks { OnOk result (Adds marks.old marks.new (Open span ∷ [])) }
         ensures state { OnOk result (state_of self.new ≡ with_blocks (state_of self.old)
-            (self.old.blocks.items ++ record { col = span.col; brackets = self.old.brackets } ∷ [])) }
+            (self.old.blocks.items ++ record { col = span.col; brackets = self.old.brackets } ∷
+            [])) }
     {
         marks.put_open(span)?;
         self.blocks.push(Block {
@@ -77,7 +77,8 @@ impl Between {
     fn close(&mut self, count: usize, span: Span, marks: &mut Marks) -> Result<(), MemoryError>
         requires { count ≤ vec_len self.old.blocks }
         ensures marks { OnOk result (Adds marks.old marks.new (closes count span)) }
-        ensures state { state_of self.new ≡ with_blocks (state_of self.old) (without_newest count self.old.blocks.items) }
+        ensures state { state_of self.new ≡ with_blocks (state_of self.old)
+            (without_newest count self.old.blocks.items) }
     {
         self.blocks.truncate(self.blocks.len() - count);
         marks.put_closes(count, span)
@@ -133,7 +134,8 @@ impl Between {
         requires { self.old.brackets + 1 < 2 ^ 64 }
         ensures marks { OnOk result (Adds marks.old marks.new
             (added role (state_of self.old) token.now self.old.blocks.items)) }
-        ensures state { OnOk result (state_of self.new ≡ behind role (state_of self.old) token.now self.old.blocks.items) }
+        ensures state { OnOk result
+            (state_of self.new ≡ behind role (state_of self.old) token.now self.old.blocks.items) }
         ensures brackets { OnOk result (self.new.brackets ≤ self.old.brackets + 1) }
     {
         let count = closed_by(role, self.brackets, self.blocks.as_slice());
@@ -145,12 +147,14 @@ impl Between {
         Ok(())
     }
 
-    /// A token that is not End, with its marks; false where it stands left of the outermost block.
+    /// A token that is not End, with its marks; false where it stands left of the outermost
+    /// block.
     pub fn lay(&mut self, role: Role, token: &Token, marks: &mut Marks) -> Result<bool, MemoryError>
         requires { self.old.brackets + 1 < 2 ^ 64 }
         ensures value { IfOk result (Lays role (state_of self.old) token.now
             (by_column (state_of self.old) token.now) marks.old marks.new (state_of self.new)) }
-        ensures brackets { IfOk result (λ found. IsTrue found → self.new.brackets ≤ self.old.brackets + 1) }
+        ensures brackets { IfOk result
+            (λ found. IsTrue found → self.new.brackets ≤ self.old.brackets + 1) }
     {
         if !self.put_by_column(token, marks)? {
             return Ok(false);

@@ -46,12 +46,14 @@ fn marks_of(alloc: Global, tokens: &[Token]) -> Result<Vec<Laid>, LayoutError>
 
 /// The tokens with the marks of their blocks. What stands behind the first End is not read.
 pub fn blocks(alloc: Global, tokens: &[Token]) -> Result<Vec<Laid>, LayoutError>
-    // Exactly the tokens with the marks that count, or the first token left of the outermost block.
+    // Exactly the tokens with the marks that count, or the first token left of the outermost
+    // block.
     ensures exact { Gives result (laid tokens.now) }
     // The tokens before the end stay, without each `;`.
     ensures tokens { IfOk result (λ laid. tokens_in laid.items ≡ kept tokens.now) }
     // Where there is an End, each block that opens closes, and none closes that isn't open.
-    ensures blocks { has_end tokens.now ≡ true → IfOk result (λ laid. open_behind 0 laid.items ≡ Some 0) }
+    ensures blocks { has_end tokens.now ≡ true →
+        IfOk result (λ laid. open_behind 0 laid.items ≡ Some 0) }
     // No Next stands directly before another one or before a Close.
     ensures nexts { IfOk result (λ laid. each_next_counts laid.items ≡ true) }
 {

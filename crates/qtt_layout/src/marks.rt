@@ -45,7 +45,8 @@ impl Marks {
     }
 
     fn put_held(&mut self) -> Result<(), MemoryError>
-        ensures laid { OnOk result (self.new.laid.items ≡ self.old.laid.items ++ held self.old.next) }
+        ensures laid { OnOk result
+            (self.new.laid.items ≡ self.old.laid.items ++ held self.old.next) }
         ensures next { OnOk result (self.new.next ≡ None) }
     {
         if let Some(span) = self.next {

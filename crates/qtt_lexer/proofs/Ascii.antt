@@ -34,7 +34,8 @@ continues_part-ascii c h = ap (λ (b : Bool). b || (c == 39)) (is_xid_continue-a
 pub continues_part-begins : (c : ℕ) → begins_part c ≡ true → continues_part c ≡ true
 continues_part-begins c h = continues_by (is_xid_start c) c refl h
 
-unlike_by : (c k : ℕ) → (((c == k) ≡ true) × (c ≡ k)) ⊎ (((c == k) ≡ false) × (c ≡ k → ⊥)) → begins_part k ≡ false → begins_part c ≡ true → (c == k) ≡ false
+unlike_by : (c k : ℕ) → (((c == k) ≡ true) × (c ≡ k)) ⊎ (((c == k) ≡ false) × (c ≡ k → ⊥)) →
+    begins_part k ≡ false → begins_part c ≡ true → (c == k) ≡ false
 unlike_by c k (inl e) other h = absurd (let f = sym h ∙ ap begins_part e.1 ∙ other in cc)
 unlike_by c k (inr e) other h = e.0
 
@@ -44,9 +45,20 @@ unlike c k lt other h = unlike_by c k (eqb_tells c k) (begins_part-ascii k lt �
 -- what begins a part begins a name
 pub front_of-name : (c : ℕ) (cs : List ℕ) → begins_part c ≡ true → front_of c cs ≡ front.Name
 front_of-name c cs h =
-    rw (unlike c 32 (omega arith) refl h, unlike c 9 (omega arith) refl h, unlike c 10 (omega arith) refl h, unlike c 13 (omega arith) refl h, unlike c 45 (omega arith) refl h, unlike c 123 (omega arith) refl h, unlike c 34 (omega arith) refl h, unlike c 63 (omega arith) refl h, h) refl
+    rw (
+      unlike c 32 (omega arith) refl h,
+      unlike c 9 (omega arith) refl h,
+      unlike c 10 (omega arith) refl h,
+      unlike c 13 (omega arith) refl h,
+      unlike c 45 (omega arith) refl h,
+      unlike c 123 (omega arith) refl h,
+      unlike c 34 (omega arith) refl h,
+      unlike c 63 (omega arith) refl h,
+      h,
+    ) refl
 
-digit_unlike_by : (c k : ℕ) → (((c == k) ≡ true) × (c ≡ k)) ⊎ (((c == k) ≡ false) × (c ≡ k → ⊥)) → is_ascii_digit k ≡ false → is_ascii_digit c ≡ true → (c == k) ≡ false
+digit_unlike_by : (c k : ℕ) → (((c == k) ≡ true) × (c ≡ k)) ⊎ (((c == k) ≡ false) × (c ≡ k → ⊥)) →
+    is_ascii_digit k ≡ false → is_ascii_digit c ≡ true → (c == k) ≡ false
 digit_unlike_by c k (inl e) other h = absurd (let f = sym h ∙ ap is_ascii_digit e.1 ∙ other in cc)
 digit_unlike_by c k (inr e) other h = e.0
 
@@ -57,4 +69,15 @@ digit_unlike c k other h = digit_unlike_by c k (eqb_tells c k) other h
 pub front_of-number : (c : ℕ) (cs : List ℕ) → is_ascii_digit c ≡ true → front_of c cs ≡ front.Number
 front_of-number c cs h =
     let no = begins_part-digit c h in
-    rw (digit_unlike c 32 refl h, digit_unlike c 9 refl h, digit_unlike c 10 refl h, digit_unlike c 13 refl h, digit_unlike c 45 refl h, digit_unlike c 123 refl h, digit_unlike c 34 refl h, digit_unlike c 63 refl h, no, h) refl
+    rw (
+      digit_unlike c 32 refl h,
+      digit_unlike c 9 refl h,
+      digit_unlike c 10 refl h,
+      digit_unlike c 13 refl h,
+      digit_unlike c 45 refl h,
+      digit_unlike c 123 refl h,
+      digit_unlike c 34 refl h,
+      digit_unlike c 63 refl h,
+      no,
+      h,
+    ) refl

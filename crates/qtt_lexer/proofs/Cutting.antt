@@ -40,19 +40,32 @@ at_most n m (Gap k) h least = omega (arith, h, least)
 at_most n m (TokenPiece kind k) h least = omega (arith, h, least)
 at_most n m (Wrong cause before k) h least = absurd h
 
-longest_front : (broken : Bool) (cs : List ℕ) (n : ℕ) (o : Option TokenKind) → HasLength n (piece_at broken cs) → 0 < n → n ≤ length cs → IsPart o (take n cs) → IsLongest (record { kind = o; characters = take n cs }) (drop n cs)
+longest_front : (broken : Bool) (cs : List ℕ) (n : ℕ) (o : Option TokenKind) → HasLength n (piece_at broken cs) →
+    0 < n → n ≤ length cs → IsPart o (take n cs) →
+    IsLongest (record { kind = o; characters = take n cs }) (drop n cs)
 longest_front broken cs n o has lt le right = record {
   some = omega (arith, length-take n cs, lt, le);
   form = right;
   longest = λ p more rest is some h.
       let same : (take n cs ++ more) ++ rest ≡ cs =
       append_assoc (take n cs) more rest ∙ ap (λ (ds : List ℕ). take n cs ++ ds) (sym is) ∙ take-append-drop n cs in
-      let least = subst (λ (ds : List ℕ). AtLeast (length (take n cs ++ more)) (piece_at broken ds)) same (part_least broken p (take n cs ++ more) rest h) in
-      absurd (omega (arith, at_most n (length (take n cs ++ more)) (piece_at broken cs) has least, length-append (take n cs) more, length-take n cs, le, some));
+      let least = subst (λ (ds : List ℕ). AtLeast (length (take n cs ++ more)) (piece_at broken ds)) same
+      (part_least broken p (take n cs ++ more) rest h) in
+      absurd (omega (
+        arith,
+        at_most n (length (take n cs ++ more)) (piece_at broken cs) has least,
+        length-append (take n cs) more,
+        length-take n cs,
+        le,
+        some,
+      ));
 }
 
 -- more characters at the front, cut off as one part
-one_more : (p : Place) (cs : List ℕ) (n : ℕ) (o : Option TokenKind) (ts : List Token) → IsLongest (record { kind = o; characters = take n cs }) (drop n cs) → CutsInto (place_after p (take n cs)) (drop n cs) ts → CutsInto p cs (with_token p (record { kind = o; characters = take n cs }) o ts)
+one_more : (p : Place) (cs : List ℕ) (n : ℕ) (o : Option TokenKind) (ts : List Token) →
+    IsLongest (record { kind = o; characters = take n cs }) (drop n cs) →
+    CutsInto (place_after p (take n cs)) (drop n cs) ts →
+    CutsInto p cs (with_token p (record { kind = o; characters = take n cs }) o ts)
 one_more p cs n o ts longest rest = record {
   cuts = record { kind = o; characters = take n cs } ∷ rest.cuts;
   whole = ap (λ (ds : List ℕ). take n cs ++ ds) rest.whole ∙ take-append-drop n cs;
@@ -60,7 +73,8 @@ one_more p cs n o ts longest rest = record {
   tokens = ap (with_token p (record { kind = o; characters = take n cs }) o) rest.tokens;
 }
 
-put_first-ok : (t : Token) (r : Result (List Token) Mistake) (ts : List Token) → put_first t r ≡ Ok ts → (us : List Token) × (r ≡ Ok us) × (t ∷ us ≡ ts)
+put_first-ok : (t : Token) (r : Result (List Token) Mistake) (ts : List Token) → put_first t r ≡ Ok ts →
+    (us : List Token) × (r ≡ Ok us) × (t ∷ us ≡ ts)
 put_first-ok t (Ok us) ts h = (us, refl, let e = h in cc)
 put_first-ok t (Err m) ts h = absurd (let e = h in cc)
 
@@ -71,7 +85,8 @@ put_first-err t (Err n) m h = h
 abbrev Cuts : Bool → Place → List ℕ → List Token → Type 0
 Cuts broken p cs ts = (broken ≡ false) × CutsInto p cs ts
 
-cut_by : (b : Bool) (p : Place) (ts : List Token) → cond b (Err (mistake NotUtf8 p 0)) (Ok (token End p [] ∷ [])) ≡ Ok ts → Cuts b p [] ts
+cut_by : (b : Bool) (p : Place) (ts : List Token) →
+    cond b (Err (mistake NotUtf8 p 0)) (Ok (token End p [] ∷ [])) ≡ Ok ts → Cuts b p [] ts
 cut_by true p ts h = absurd (let f = h in cc)
 cut_by false p ts h = (refl, record { cuts = []; whole = refl; longest = tt; tokens = let f = h in cc })
 
@@ -79,14 +94,19 @@ cut_end : (broken : Bool) (p : Place) (ts : List Token) → tokens_from broken p
 unfolding tokens_from
 cut_end broken p ts h = cut_by broken p ts h
 
-module _ (broken : Bool) (p : Place) (cs : List ℕ) (ts : List Token) (some : 0 < length cs) (all : tokens_from broken p 0 cs ≡ Ok ts) where
-  cut_piece : (q : Piece) → q ≡ piece_at broken cs → Fits (length cs) q → IsRight cs q → ((n : ℕ) (us : List Token) → 0 < n → tokens_from broken (place_after p (take n cs)) 0 (drop n cs) ≡ Ok us → Cuts broken (place_after p (take n cs)) (drop n cs) us) → Cuts broken p cs ts
+module _ (broken : Bool) (p : Place) (cs : List ℕ) (ts : List Token) (some : 0 < length cs)
+    (all : tokens_from broken p 0 cs ≡ Ok ts) where
+  cut_piece : (q : Piece) → q ≡ piece_at broken cs → Fits (length cs) q → IsRight cs q →
+      ((n : ℕ) (us : List Token) → 0 < n → tokens_from broken (place_after p (take n cs)) 0 (drop n cs) ≡ Ok us →
+      Cuts broken (place_after p (take n cs)) (drop n cs) us) → Cuts broken p cs ts
   cut_piece (Gap n) is fits right rest =
       let tail = rest n ts fits.0 (sym (tokens_from-gap broken p n cs some is fits.0 fits.1) ∙ all) in
       let has : HasLength n (piece_at broken cs) = subst (HasLength n) is refl in
       (tail.0, one_more p cs n None ts (longest_front broken cs n None has fits.0 fits.1 right) tail.1)
   cut_piece (TokenPiece k n) is fits right rest =
-      let parts = put_first-ok (token k p (take n cs)) (tokens_from broken (place_after p (take n cs)) 0 (drop n cs)) ts (sym (tokens_from-token broken p k n cs some is fits.0 fits.1) ∙ all) in
+      let parts = put_first-ok (token k p (take n cs))
+      (tokens_from broken (place_after p (take n cs)) 0 (drop n cs)) ts
+      (sym (tokens_from-token broken p k n cs some is fits.0 fits.1) ∙ all) in
       let tail = rest n parts.0 fits.0 parts.1 in
       let has : HasLength n (piece_at broken cs) = subst (HasLength n) is refl in
       let cut = one_more p cs n (Some k) parts.0 (longest_front broken cs n (Some k) has fits.0 fits.1 right) tail.1 in
@@ -94,12 +114,15 @@ module _ (broken : Bool) (p : Place) (cs : List ℕ) (ts : List Token) (some : 0
   cut_piece (Wrong cause before n) is fits right rest =
       absurd (let e = sym (tokens_from-wrong broken p cause before n cs some is) ∙ all in cc)
 
-cuts_within : (fuel : ℕ) (broken : Bool) (p : Place) (cs : List ℕ) (ts : List Token) → length cs ≤ fuel → tokens_from broken p 0 cs ≡ Ok ts → Cuts broken p cs ts
+cuts_within : (fuel : ℕ) (broken : Bool) (p : Place) (cs : List ℕ) (ts : List Token) → length cs ≤ fuel →
+    tokens_from broken p 0 cs ≡ Ok ts → Cuts broken p cs ts
 cuts_within fuel broken p [] ts h all = cut_end broken p ts all
 cuts_within zero broken p (c ∷ cs) ts h all = absurd (omega (arith, h))
 cuts_within (suc fuel) broken p (c ∷ cs) ts h all =
-    cut_piece broken p (c ∷ cs) ts (omega arith) all (piece_at broken (c ∷ cs)) refl (piece_at-fits broken (c ∷ cs) (omega arith)) (piece_at-right broken (c ∷ cs) (omega arith))
-    (λ n us lt rest. cuts_within fuel broken (place_after p (take n (c ∷ cs))) (drop n (c ∷ cs)) us (omega (arith, h, lt, length-drop n (c ∷ cs))) rest)
+    cut_piece broken p (c ∷ cs) ts (omega arith) all (piece_at broken (c ∷ cs)) refl
+    (piece_at-fits broken (c ∷ cs) (omega arith)) (piece_at-right broken (c ∷ cs) (omega arith))
+    (λ n us lt rest. cuts_within fuel broken (place_after p (take n (c ∷ cs))) (drop n (c ∷ cs)) us
+    (omega (arith, h, lt, length-drop n (c ∷ cs))) rest)
 
 -- Faults
 
@@ -111,13 +134,16 @@ record IsPlaced (p : Place) (cs : List ℕ) (span : Span) : Type 0 where
   line : span.line ≡ (place_after p before).line
   col : span.col ≡ (place_after p before).col
 
-placed_later : (p : Place) (cs : List ℕ) (n : ℕ) (span : Span) → IsPlaced (place_after p (take n cs)) (drop n cs) span → IsPlaced p cs span
+placed_later : (p : Place) (cs : List ℕ) (n : ℕ) (span : Span) →
+    IsPlaced (place_after p (take n cs)) (drop n cs) span → IsPlaced p cs span
 placed_later p cs n span rest =
-    let same : place_after (place_after p (take n cs)) rest.before ≡ place_after p (take n cs ++ rest.before) = sym (fold-append place_behind p (take n cs) rest.before) in
+    let same : place_after (place_after p (take n cs)) rest.before ≡ place_after p (take n cs ++ rest.before) =
+    sym (fold-append place_behind p (take n cs) rest.before) in
     record {
       before = take n cs ++ rest.before;
       behind = rest.behind;
-      whole = append_assoc (take n cs) rest.before rest.behind ∙ ap (λ (ds : List ℕ). take n cs ++ ds) rest.whole ∙ take-append-drop n cs;
+      whole = append_assoc (take n cs) rest.before rest.behind ∙ ap (λ (ds : List ℕ). take n cs ++ ds) rest.whole
+          ∙ take-append-drop n cs;
       line = rest.line ∙ ap (λ (q : Place). q.line) same;
       col = rest.col ∙ ap (λ (q : Place). q.col) same;
     }
@@ -128,7 +154,8 @@ failed m = Err m
 same_mistake : (a b : Mistake) → failed a ≡ failed b → a ≡ b
 same_mistake a b e = cc
 
-placed_by : (b : Bool) (p : Place) (m : Mistake) → cond b (Err (mistake NotUtf8 p 0)) (Ok (token End p [] ∷ [])) ≡ Err m → IsPlaced p [] m.span
+placed_by : (b : Bool) (p : Place) (m : Mistake) →
+    cond b (Err (mistake NotUtf8 p 0)) (Ok (token End p [] ∷ [])) ≡ Err m → IsPlaced p [] m.span
 placed_by true p m h =
     let same : mistake NotUtf8 p 0 ≡ m = same_mistake (mistake NotUtf8 p 0) m h in
     record {
@@ -144,14 +171,20 @@ placed_end : (broken : Bool) (p : Place) (m : Mistake) → tokens_from broken p 
 unfolding tokens_from
 placed_end broken p m h = placed_by broken p m h
 
-module _ (broken : Bool) (p : Place) (cs : List ℕ) (m : Mistake) (some : 0 < length cs) (all : tokens_from broken p 0 cs ≡ Err m) where
-  placed_piece : (q : Piece) → q ≡ piece_at broken cs → Fits (length cs) q → ((n : ℕ) → 0 < n → tokens_from broken (place_after p (take n cs)) 0 (drop n cs) ≡ Err m → IsPlaced (place_after p (take n cs)) (drop n cs) m.span) → IsPlaced p cs m.span
+module _ (broken : Bool) (p : Place) (cs : List ℕ) (m : Mistake) (some : 0 < length cs)
+    (all : tokens_from broken p 0 cs ≡ Err m) where
+  placed_piece : (q : Piece) → q ≡ piece_at broken cs → Fits (length cs) q →
+      ((n : ℕ) → 0 < n → tokens_from broken (place_after p (take n cs)) 0 (drop n cs) ≡ Err m →
+      IsPlaced (place_after p (take n cs)) (drop n cs) m.span) → IsPlaced p cs m.span
   placed_piece (Gap n) is fits rest =
       placed_later p cs n m.span (rest n fits.0 (sym (tokens_from-gap broken p n cs some is fits.0 fits.1) ∙ all))
   placed_piece (TokenPiece k n) is fits rest =
-      placed_later p cs n m.span (rest n fits.0 (put_first-err (token k p (take n cs)) _ m (sym (tokens_from-token broken p k n cs some is fits.0 fits.1) ∙ all)))
+      placed_later p cs n m.span
+      (rest n fits.0 (put_first-err (token k p (take n cs)) _ m
+      (sym (tokens_from-token broken p k n cs some is fits.0 fits.1) ∙ all)))
   placed_piece (Wrong cause before n) is fits rest =
-      let same : mistake cause (place_after p (take before cs)) n ≡ m = same_mistake _ m (sym (tokens_from-wrong broken p cause before n cs some is) ∙ all) in
+      let same : mistake cause (place_after p (take before cs)) n ≡ m =
+      same_mistake _ m (sym (tokens_from-wrong broken p cause before n cs some is) ∙ all) in
       record {
         before = take before cs;
         behind = drop before cs;
@@ -160,16 +193,20 @@ module _ (broken : Bool) (p : Place) (cs : List ℕ) (m : Mistake) (some : 0 < l
         col = ap (λ (x : Mistake). x.span.col) (sym same);
       }
 
-placed_within : (fuel : ℕ) (broken : Bool) (p : Place) (cs : List ℕ) (m : Mistake) → length cs ≤ fuel → tokens_from broken p 0 cs ≡ Err m → IsPlaced p cs m.span
+placed_within : (fuel : ℕ) (broken : Bool) (p : Place) (cs : List ℕ) (m : Mistake) → length cs ≤ fuel →
+    tokens_from broken p 0 cs ≡ Err m → IsPlaced p cs m.span
 placed_within fuel broken p [] m h all = placed_end broken p m all
 placed_within zero broken p (c ∷ cs) m h all = absurd (omega (arith, h))
 placed_within (suc fuel) broken p (c ∷ cs) m h all =
-    placed_piece broken p (c ∷ cs) m (omega arith) all (piece_at broken (c ∷ cs)) refl (piece_at-fits broken (c ∷ cs) (omega arith))
-    (λ n lt rest. placed_within fuel broken (place_after p (take n (c ∷ cs))) (drop n (c ∷ cs)) m (omega (arith, h, lt, length-drop n (c ∷ cs))) rest)
+    placed_piece broken p (c ∷ cs) m (omega arith) all (piece_at broken (c ∷ cs)) refl
+    (piece_at-fits broken (c ∷ cs) (omega arith))
+    (λ n lt rest. placed_within fuel broken (place_after p (take n (c ∷ cs))) (drop n (c ∷ cs)) m
+    (omega (arith, h, lt, length-drop n (c ∷ cs))) rest)
 
 -- Bytes
 
-utf8_by : (b : Bool) (bs : List ℕ) (n : ℕ) → is_utf8 (take (suc n) bs) ≡ b → IsUtf8 (take (valid_len_up_to bs n) bs) → IsUtf8 (take (cond b (suc n) (valid_len_up_to bs n)) bs)
+utf8_by : (b : Bool) (bs : List ℕ) (n : ℕ) → is_utf8 (take (suc n) bs) ≡ b →
+    IsUtf8 (take (valid_len_up_to bs n) bs) → IsUtf8 (take (cond b (suc n) (valid_len_up_to bs n)) bs)
 utf8_by true bs n e h = IsUtf8-from_is_utf8 (take (suc n) bs) e
 utf8_by false bs n e h = h
 
@@ -181,7 +218,8 @@ valid_front : (bs : List ℕ) → IsUtf8 (take (utf8_valid_len bs) bs)
 unfolding utf8_valid_len
 valid_front bs = utf8_front bs (length bs)
 
-spelled_by : (b : Bool) (c : ℕ) (cs text : List ℕ) → (c == 0xFEFF) ≡ b → encode_utf8_all (c ∷ cs) ≡ text → AreSpelled text (cond b cs (c ∷ cs))
+spelled_by : (b : Bool) (c : ℕ) (cs text : List ℕ) → (c == 0xFEFF) ≡ b → encode_utf8_all (c ∷ cs) ≡ text →
+    AreSpelled text (cond b cs (c ∷ cs))
 spelled_by true c cs text e h = inr (ap (λ (x : ℕ). encode_utf8_all (x ∷ cs)) (sym (eqb-true c 0xFEFF e)) ∙ h)
 spelled_by false c cs text e h = inl h
 
@@ -189,9 +227,11 @@ spelled_without : (cs text : List ℕ) → encode_utf8_all cs ≡ text → AreSp
 spelled_without [] text h = inl h
 spelled_without (c ∷ cs) text h = spelled_by (c == 0xFEFF) c cs text refl h
 
-spelled_text : (bytes : List ℕ) → AreSpelled (take (utf8_valid_len bytes) bytes) (without_mark (chars (take (utf8_valid_len bytes) bytes)))
+spelled_text : (bytes : List ℕ) →
+    AreSpelled (take (utf8_valid_len bytes) bytes) (without_mark (chars (take (utf8_valid_len bytes) bytes)))
 spelled_text bytes =
-    spelled_without (chars (take (utf8_valid_len bytes) bytes)) (take (utf8_valid_len bytes) bytes) (encodes-chars (take (utf8_valid_len bytes) bytes) (valid_front bytes))
+    spelled_without (chars (take (utf8_valid_len bytes) bytes)) (take (utf8_valid_len bytes) bytes)
+    (encodes-chars (take (utf8_valid_len bytes) bytes) (valid_front bytes))
 
 whole_by : (bytes : List ℕ) (n : ℕ) → n ≤ length bytes → nat_lt n (length bytes) ≡ false → take n bytes ≡ bytes
 whole_by bytes n le h =
@@ -207,7 +247,8 @@ lexed-text bytes ts h =
     let cuts = cuts_within (length cs) (nat_lt n (length bytes)) start cs ts (omega arith) h in
     record {
       characters = cs;
-      spelled = subst (λ (text : List ℕ). AreSpelled text cs) (whole_by bytes n (utf8_valid_len_le bytes) cuts.0) (spelled_text bytes);
+      spelled = subst (λ (text : List ℕ). AreSpelled text cs) (whole_by bytes n (utf8_valid_len_le bytes) cuts.0)
+          (spelled_text bytes);
       parts = cuts.1;
     }
 
@@ -239,7 +280,8 @@ lexed-place bytes m h =
     }
 
 -- the answer's own words
-pub text_of_answer : (bytes : List ℕ) (r : Result (Vec Token Global) LexError) → Gives r (lexed bytes) → IfOk r (λ tokens. IsText bytes tokens.items)
+pub text_of_answer : (bytes : List ℕ) (r : Result (Vec Token Global) LexError) → Gives r (lexed bytes) →
+    IfOk r (λ tokens. IsText bytes tokens.items)
 text_of_answer bytes (Ok tokens) h = lexed-text bytes tokens.items h
 text_of_answer bytes (Err e) h = tt
 
@@ -247,6 +289,7 @@ place_of_error : (bytes : List ℕ) (e : LexError) → Refuses e (lexed bytes) �
 place_of_error bytes errors.Memory h = tt
 place_of_error bytes (errors.Fault fault) h = lexed-place bytes (seen fault) h
 
-pub place_of_answer : (bytes : List ℕ) (r : Result (Vec Token Global) LexError) → Gives r (lexed bytes) → IfErr r (HasPlaceIn bytes)
+pub place_of_answer : (bytes : List ℕ) (r : Result (Vec Token Global) LexError) → Gives r (lexed bytes) →
+    IfErr r (HasPlaceIn bytes)
 place_of_answer bytes (Ok tokens) h = tt
 place_of_answer bytes (Err e) h = place_of_error bytes e h

@@ -30,7 +30,8 @@ preceded-within most c n m LineEnds e h = tt
 preceded-within most c n m (TextEnds k) e h = omega (arith, e, h)
 preceded-within most c n m (BadEscape k) e h = omega (arith, e, h)
 
-by_escape-within : (o : Option ℕ) (most m : ℕ) (q : Quotation) → most ≡ 2 + m → IsWithin m q → IsWithin most (by_escape o q)
+by_escape-within : (o : Option ℕ) (most m : ℕ) (q : Quotation) → most ≡ 2 + m → IsWithin m q →
+    IsWithin most (by_escape o q)
 by_escape-within None most m q e h = omega (arith, e)
 by_escape-within (Some c) most m q e h = preceded-within most c 2 m q e h
 
@@ -48,7 +49,8 @@ quoted-within (c ∷ e ∷ cs) =
     within_if (c == 34) all (Closed [] 1) _ (omega arith)
     (within_if (c == 10) all LineEnds _ tt
     (within_if (c == 92) all escaped plain
-    (within_if (e == 10) all LineEnds (by_escape (escape e) rest) tt (by_escape-within (escape e) all (length cs) rest (omega arith) (quoted-within cs)))
+    (within_if (e == 10) all LineEnds (by_escape (escape e) rest) tt
+    (by_escape-within (escape e) all (length cs) rest (omega arith) (quoted-within cs)))
     (preceded-within all c 1 (length (e ∷ cs)) (quoted (e ∷ cs)) (omega arith) (quoted-within (e ∷ cs)))))
 
 text_of-fits : (broken : Bool) (all m : ℕ) (q : Quotation) → all ≡ m + 1 → IsWithin m q → Fits all (text_of broken q)
@@ -81,11 +83,14 @@ comment_tail-within d [] = tt
 comment_tail-within d (c ∷ []) = tt
 comment_tail-within d (c ∷ e ∷ cs) =
     let all = length (c ∷ e ∷ cs) in
-    tail_if (opens c e) all _ _ (tail_more all (length cs) 2 (comment_tail (suc d) cs) (omega arith) (comment_tail-within (suc d) cs))
-    (tail_if (closes c e) all _ _ (tail_closing d all (length cs) (comment_tail (d - 1) cs) (omega arith) (comment_tail-within (d - 1) cs))
+    tail_if (opens c e) all _ _
+    (tail_more all (length cs) 2 (comment_tail (suc d) cs) (omega arith) (comment_tail-within (suc d) cs))
+    (tail_if (closes c e) all _ _
+    (tail_closing d all (length cs) (comment_tail (d - 1) cs) (omega arith) (comment_tail-within (d - 1) cs))
     (tail_more all (length (e ∷ cs)) 1 (comment_tail d (e ∷ cs)) (omega arith) (comment_tail-within d (e ∷ cs))))
 
-comment_of-fits : (broken : Bool) (cs : List ℕ) (o : Option ℕ) → IsTail (length (drop 1 cs)) o → Fits (suc (length cs)) (comment_of broken (length cs + 1) o)
+comment_of-fits : (broken : Bool) (cs : List ℕ) (o : Option ℕ) → IsTail (length (drop 1 cs)) o →
+    Fits (suc (length cs)) (comment_of broken (length cs + 1) o)
 comment_of-fits broken cs (Some n) h = (omega arith, omega (arith, h.0, h.1, length-drop 1 cs))
 comment_of-fits true cs None h = (omega arith, omega arith)
 comment_of-fits false cs None h = (omega arith, omega arith)
@@ -116,7 +121,8 @@ hole_at-fits : (cs : List ℕ) → Fits (suc (length cs)) (hole_at cs)
 unfolding hole_at
 hole_at-fits cs =
     piece_if (begins begins_part cs) (suc (length cs)) _ _
-    (hole_of-fits (suc (length cs)) (name_length cs) (encode_utf8_all (take (name_length cs) cs)) (omega (arith, name_length-le-length cs))) (omega arith, omega arith)
+    (hole_of-fits (suc (length cs)) (name_length cs) (encode_utf8_all (take (name_length cs) cs))
+    (omega (arith, name_length-le-length cs))) (omega arith, omega arith)
 
 positive_of-fits : (all n value : ℕ) → 0 < n → n ≤ all → Fits all (number_of false n value)
 positive_of-fits all n value lt le =
@@ -132,9 +138,11 @@ some_digit c cs h = rw h (omega arith)
 number_at-fits : (c : ℕ) (cs : List ℕ) → is_ascii_digit c ≡ true → Fits (suc (length cs)) (number_at false (c ∷ cs))
 unfolding number_at
 number_at-fits c cs h =
-    positive_of-fits (suc (length cs)) (prefix_len is_ascii_digit (c ∷ cs)) _ (some_digit c cs h) (omega (arith, prefix_len-le-length is_ascii_digit (c ∷ cs)))
+    positive_of-fits (suc (length cs)) (prefix_len is_ascii_digit (c ∷ cs)) _ (some_digit c cs h)
+    (omega (arith, prefix_len-le-length is_ascii_digit (c ∷ cs)))
 
-symbol_of-fits : (all c : ℕ) (o : Option (TokenKind × ℕ)) → 1 ≤ all → IfSome o (λ s. (0 < s.1) × (s.1 ≤ all)) → Fits all (symbol_of c o)
+symbol_of-fits : (all c : ℕ) (o : Option (TokenKind × ℕ)) → 1 ≤ all → IfSome o (λ s. (0 < s.1) × (s.1 ≤ all)) →
+    Fits all (symbol_of c o)
 symbol_of-fits all c None h k = (omega arith, omega (arith, h))
 symbol_of-fits all c (Some s) h k = k
 
@@ -159,7 +167,11 @@ symbol_at-fits c (e ∷ cs) =
     (sized-fits all 1 (listed singles (c ∷ [])) (omega arith) (omega arith))
 
 -- what begins as a number begins with a digit
-number_begins : (a b c d e f g h : Bool) → front.Number ≡ cond a front.Blank (cond b front.Line (cond c front.Comment (cond d front.Text (cond e front.Hole (cond f front.Name (cond g front.Number (cond h front.Negative front.Symbol))))))) → g ≡ true
+number_begins : (a b c d e f g h : Bool) →
+    front.Number ≡ cond a front.Blank
+    (cond b front.Line (cond c front.Comment
+    (cond d front.Text (cond e front.Hole
+    (cond f front.Name (cond g front.Number (cond h front.Negative front.Symbol))))))) → g ≡ true
 number_begins true b c d e f g h is = cc
 number_begins false true c d e f g h is = cc
 number_begins false false true d e f g h is = cc
@@ -172,23 +184,29 @@ number_begins false false false false false false false false is = cc
 
 front_digit : (c : ℕ) (cs : List ℕ) → front.Number ≡ front_of c cs → is_ascii_digit c ≡ true
 front_digit c cs h =
-    number_begins (is_blank c) (is_dash c && begins is_dash cs) ((c == 123) && begins is_dash cs) (c == 34) (c == 63) (begins_part c) (is_ascii_digit c) (is_dash c && begins is_ascii_digit cs) h
+    number_begins (is_blank c) (is_dash c && begins is_dash cs) ((c == 123) && begins is_dash cs) (c == 34)
+    (c == 63) (begins_part c) (is_ascii_digit c) (is_dash c && begins is_ascii_digit cs) h
 
 negative-fits : (cs : List ℕ) → Fits (suc (length cs)) (number_at true cs)
 unfolding number_at
 negative-fits cs =
-    negative_of-fits (suc (length cs)) (prefix_len is_ascii_digit cs) _ (omega (arith, prefix_len-le-length is_ascii_digit cs))
+    negative_of-fits (suc (length cs)) (prefix_len is_ascii_digit cs) _
+    (omega (arith, prefix_len-le-length is_ascii_digit cs))
 
-front-fits : (broken : Bool) (c : ℕ) (cs : List ℕ) (f : Front) → f ≡ front_of c cs → Fits (suc (length cs)) (by_front broken c cs f)
+front-fits : (broken : Bool) (c : ℕ) (cs : List ℕ) (f : Front) → f ≡ front_of c cs →
+    Fits (suc (length cs)) (by_front broken c cs f)
 front-fits broken c cs front.Blank h = (omega arith, omega arith)
 front-fits broken c cs front.Line h = (omega arith, omega (arith, prefix_len-le-length (λ d. not (d == 10)) cs))
-front-fits broken c cs front.Comment h = comment_of-fits broken cs (comment_tail 0 (drop 1 cs)) (comment_tail-within 0 (drop 1 cs))
-front-fits broken c cs front.Text h = text_of-fits broken (suc (length cs)) (length cs) (quoted cs) (omega arith) (quoted-within cs)
+front-fits broken c cs front.Comment h =
+    comment_of-fits broken cs (comment_tail 0 (drop 1 cs)) (comment_tail-within 0 (drop 1 cs))
+front-fits broken c cs front.Text h =
+    text_of-fits broken (suc (length cs)) (length cs) (quoted cs) (omega arith) (quoted-within cs)
 front-fits broken c cs front.Hole h = hole_at-fits cs
 front-fits broken c cs front.Name h = name_at-fits c cs
 front-fits broken c cs front.Number h = number_at-fits c cs (front_digit c cs h)
 front-fits broken c cs front.Negative h = negative-fits cs
-front-fits broken c cs front.Symbol h = symbol_of-fits (suc (length cs)) c (symbol_at (c ∷ cs)) (omega arith) (symbol_at-fits c cs)
+front-fits broken c cs front.Symbol h =
+    symbol_of-fits (suc (length cs)) c (symbol_at (c ∷ cs)) (omega arith) (symbol_at-fits c cs)
 
 pub piece_at-fits : (broken : Bool) (cs : List ℕ) → 0 < length cs → Fits (length cs) (piece_at broken cs)
 unfolding piece_at

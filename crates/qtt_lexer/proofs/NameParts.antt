@@ -52,7 +52,8 @@ kept : (g : Bool) (part : List ℕ) → grown false g part ≡ g
 kept g [] = refl
 kept g (x ∷ part) = refl
 
-in_part : (s g : Bool) (x : ℕ) (ps : List (List ℕ)) → 0 < length ps → by_parts false (cond s (is_ascii_uppercase x) g) ps ≡ by_parts s g (onto_first x ps)
+in_part : (s g : Bool) (x : ℕ) (ps : List (List ℕ)) → 0 < length ps →
+    by_parts false (cond s (is_ascii_uppercase x) g) ps ≡ by_parts s g (onto_first x ps)
 in_part s g x [] h = absurd (omega arith)
 in_part s g x (part ∷ []) h = kept (cond s (is_ascii_uppercase x) g) part
 in_part s g x (part ∷ next ∷ others) h = refl
@@ -60,9 +61,13 @@ in_part s g x (part ∷ next ∷ others) h = refl
 some_part : (xs : List ℕ) → 0 < length (slice_split is_dot xs)
 some_part xs = omega (arith, length-slice_split is_dot xs)
 
-scan_step : (b s g : Bool) (x : ℕ) (xs : List ℕ) → ((t h : Bool) → scan t h xs ≡ by_parts t h (slice_split is_dot xs)) → scan b (cond b false (cond s (is_ascii_uppercase x) g)) xs ≡ by_parts s g (cond b ([] ∷ slice_split is_dot xs) (onto_first x (slice_split is_dot xs)))
+scan_step : (b s g : Bool) (x : ℕ) (xs : List ℕ) →
+    ((t h : Bool) → scan t h xs ≡ by_parts t h (slice_split is_dot xs)) →
+    scan b (cond b false (cond s (is_ascii_uppercase x) g)) xs ≡ by_parts s g
+    (cond b ([] ∷ slice_split is_dot xs) (onto_first x (slice_split is_dot xs)))
 scan_step true s g x xs rest = rest true false ∙ at_dot s g (slice_split is_dot xs) (some_part xs)
-scan_step false s g x xs rest = rest false (cond s (is_ascii_uppercase x) g) ∙ in_part s g x (slice_split is_dot xs) (some_part xs)
+scan_step false s g x xs rest =
+    rest false (cond s (is_ascii_uppercase x) g) ∙ in_part s g x (slice_split is_dot xs) (some_part xs)
 
 scan_parts : (xs : List ℕ) (s g : Bool) → scan s g xs ≡ by_parts s g (slice_split is_dot xs)
 scan_parts [] s g = refl

@@ -7,7 +7,8 @@ use Rattle.std.specs.List.{prefix_len, AllPass}
 use Rattle.std.specs.Char.{is_ascii_digit}
 use Rattle.qtt_lexer.specs.Piece.{number_of}
 
-pub number_of-capped : (negative : Bool) (n value : ℕ) → number_of negative n (min value (2 ^ 64 - 1)) ≡ number_of negative n value
+pub number_of-capped : (negative : Bool) (n value : ℕ) →
+    number_of negative n (min value (2 ^ 64 - 1)) ≡ number_of negative n value
 number_of-capped true n value = grind (arith, nat_tests)
 number_of-capped false n value = grind (arith, nat_tests)
 

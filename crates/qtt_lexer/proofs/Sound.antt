@@ -31,7 +31,8 @@ IsRight cs (Gap n) = IsGap (take n cs)
 IsRight cs (Token k n) = IsToken k (take n cs)
 IsRight cs (Wrong cause before n) = Unit {0}
 
-right_if : (b : Bool) (cs : List ℕ) (p q : Piece) → (b ≡ true → IsRight cs p) → (b ≡ false → IsRight cs q) → IsRight cs (cond b p q)
+right_if : (b : Bool) (cs : List ℕ) (p q : Piece) → (b ≡ true → IsRight cs p) →
+    (b ≡ false → IsRight cs q) → IsRight cs (cond b p q)
 right_if true cs p q h k = h refl
 right_if false cs p q h k = k refl
 
@@ -54,17 +55,20 @@ take_two n c e cs = let is : n + 2 ≡ suc (suc n) = omega arith in ap (λ (m : 
 abbrev NestedIn : ℕ → List ℕ → Option ℕ → Type 0
 NestedIn d cs o = IfSome o (λ n. Nested d (take n cs))
 
-nested_if : (b : Bool) (d : ℕ) (cs : List ℕ) (o p : Option ℕ) → (b ≡ true → NestedIn d cs o) → (b ≡ false → NestedIn d cs p) → NestedIn d cs (cond b o p)
+nested_if : (b : Bool) (d : ℕ) (cs : List ℕ) (o p : Option ℕ) → (b ≡ true → NestedIn d cs o) →
+    (b ≡ false → NestedIn d cs p) → NestedIn d cs (cond b o p)
 nested_if true d cs o p h k = h refl
 nested_if false d cs o p h k = k refl
 
-nested_opens : (d c e : ℕ) (cs : List ℕ) (o : Option ℕ) → c ≡ 123 → e ≡ 45 → NestedIn (suc d) cs o → NestedIn d (c ∷ e ∷ cs) (option_map (λ n. n + 2) o)
+nested_opens : (d c e : ℕ) (cs : List ℕ) (o : Option ℕ) → c ≡ 123 → e ≡ 45 → NestedIn (suc d) cs o →
+    NestedIn d (c ∷ e ∷ cs) (option_map (λ n. n + 2) o)
 nested_opens d c e cs None h k m = tt
 nested_opens d c e cs (Some n) h k m =
     let same : 123 ∷ 45 ∷ take n cs ≡ take (n + 2) (c ∷ e ∷ cs) = rw (h, k) (sym (take_two n 123 45 cs)) in
     subst (Nested d) same (opened d (take n cs) m)
 
-nested_closes : (d c e : ℕ) (cs : List ℕ) (o : Option ℕ) → c ≡ 45 → e ≡ 125 → NestedIn (d - 1) cs o → NestedIn d (c ∷ e ∷ cs) (closing d o)
+nested_closes : (d c e : ℕ) (cs : List ℕ) (o : Option ℕ) → c ≡ 45 → e ≡ 125 → NestedIn (d - 1) cs o →
+    NestedIn d (c ∷ e ∷ cs) (closing d o)
 nested_closes zero c e cs o h k m =
     let same : 45 ∷ 125 ∷ [] ≡ take 2 (c ∷ e ∷ cs) = rw (h, k) refl in
     subst (Nested 0) same last
@@ -74,7 +78,8 @@ nested_closes (suc d) c e cs (Some n) h k m =
     let less : suc d - 1 ≡ d = omega arith in
     subst (Nested (suc d)) same (closed d (take n cs) (subst (λ (j : ℕ). Nested j (take n cs)) less m))
 
-nested_skips : (d c e : ℕ) (cs : List ℕ) (o : Option ℕ) → opens c e ≡ false → closes c e ≡ false → IfSome o (λ n. 0 < n) → NestedIn d (e ∷ cs) o → NestedIn d (c ∷ e ∷ cs) (option_map (λ n. n + 1) o)
+nested_skips : (d c e : ℕ) (cs : List ℕ) (o : Option ℕ) → opens c e ≡ false → closes c e ≡ false →
+    IfSome o (λ n. 0 < n) → NestedIn d (e ∷ cs) o → NestedIn d (c ∷ e ∷ cs) (option_map (λ n. n + 1) o)
 nested_skips d c e cs None h k some m = tt
 nested_skips d c e cs (Some zero) h k some m = absurd (omega (arith, some))
 nested_skips d c e cs (Some (suc n)) h k some m =
@@ -92,12 +97,16 @@ comment_tail-nested d [] = tt
 comment_tail-nested d (c ∷ []) = tt
 comment_tail-nested d (c ∷ e ∷ cs) =
     nested_if (opens c e) d (c ∷ e ∷ cs) _ _
-    (λ h. nested_opens d c e cs (comment_tail (suc d) cs) (eqb-true c 123 (both (c == 123) (e == 45) h).0) (eqb-true e 45 (both (c == 123) (e == 45) h).1) (comment_tail-nested (suc d) cs))
+    (λ h. nested_opens d c e cs (comment_tail (suc d) cs) (eqb-true c 123 (both (c == 123) (e == 45) h).0)
+    (eqb-true e 45 (both (c == 123) (e == 45) h).1) (comment_tail-nested (suc d) cs))
     (λ h. nested_if (closes c e) d (c ∷ e ∷ cs) _ _
-    (λ k. nested_closes d c e cs (comment_tail (d - 1) cs) (eqb-true c 45 (both (c == 45) (e == 125) k).0) (eqb-true e 125 (both (c == 45) (e == 125) k).1) (comment_tail-nested (d - 1) cs))
-    (λ k. nested_skips d c e cs (comment_tail d (e ∷ cs)) h k (nested_some d (e ∷ cs)) (comment_tail-nested d (e ∷ cs))))
+    (λ k. nested_closes d c e cs (comment_tail (d - 1) cs) (eqb-true c 45 (both (c == 45) (e == 125) k).0)
+    (eqb-true e 125 (both (c == 45) (e == 125) k).1) (comment_tail-nested (d - 1) cs))
+    (λ k. nested_skips d c e cs (comment_tail d (e ∷ cs)) h k (nested_some d (e ∷ cs))
+    (comment_tail-nested d (e ∷ cs))))
 
-comment_right : (broken : Bool) (all : ℕ) (cs : List ℕ) (o : Option ℕ) → NestedIn 0 cs o → IsRight (123 ∷ 45 ∷ cs) (comment_of broken all o)
+comment_right : (broken : Bool) (all : ℕ) (cs : List ℕ) (o : Option ℕ) → NestedIn 0 cs o →
+    IsRight (123 ∷ 45 ∷ cs) (comment_of broken all o)
 comment_right broken all cs (Some n) h = subst IsGap (sym (take_two n 123 45 cs)) (is_comment (take n cs) h)
 comment_right true all cs None h = tt
 comment_right false all cs None h = tt
@@ -106,15 +115,20 @@ begins_with : (k : ℕ) (cs : List ℕ) → begins (λ c. c == k) cs ≡ true �
 begins_with k [] h = cc
 begins_with k (c ∷ cs) h = ap (λ (x : ℕ). x ∷ cs) (eqb-true c k h)
 
-comment-right : (broken : Bool) (c : ℕ) (cs : List ℕ) → ((c == 123) && begins is_dash cs) ≡ true → IsRight (c ∷ cs) (by_front broken c cs front.Comment)
+comment-right : (broken : Bool) (c : ℕ) (cs : List ℕ) → ((c == 123) && begins is_dash cs) ≡ true →
+    IsRight (c ∷ cs) (by_front broken c cs front.Comment)
 comment-right broken c cs h =
     let parts = both (c == 123) (begins is_dash cs) h in
     let same : 123 ∷ 45 ∷ drop 1 cs ≡ c ∷ cs =
-    ap (λ (x : ℕ). x ∷ 45 ∷ drop 1 cs) (sym (eqb-true c 123 parts.0)) ∙ ap (λ (ds : List ℕ). c ∷ ds) (sym (begins_with 45 cs parts.1)) in
-    let right = comment_right broken (length cs + 1) (drop 1 cs) (comment_tail 0 (drop 1 cs)) (comment_tail-nested 0 (drop 1 cs)) in
+    ap (λ (x : ℕ). x ∷ 45 ∷ drop 1 cs) (sym (eqb-true c 123 parts.0)) ∙ ap (λ (ds : List ℕ). c ∷ ds)
+    (sym (begins_with 45 cs parts.1)) in
+    let right = comment_right broken (length cs + 1) (drop 1 cs) (comment_tail 0 (drop 1 cs))
+    (comment_tail-nested 0 (drop 1 cs)) in
     subst (λ (ds : List ℕ). IsRight ds (comment_of broken (length cs + 1) (comment_tail 0 (drop 1 cs)))) same right
 
-passes_by : (p : ℕ → Bool) (c : ℕ) (cs : List ℕ) (b : Bool) → p c ≡ b → list_all p (take (prefix_len p cs) cs) ≡ true → list_all p (take (cond b (1 + prefix_len p cs) 0) (c ∷ cs)) ≡ true
+passes_by : (p : ℕ → Bool) (c : ℕ) (cs : List ℕ) (b : Bool) → p c ≡ b →
+    list_all p (take (prefix_len p cs) cs) ≡ true →
+    list_all p (take (cond b (1 + prefix_len p cs) 0) (c ∷ cs)) ≡ true
 passes_by p c cs false e h = refl
 passes_by p c cs true e h = ap (list_all p) (take_first (prefix_len p cs) c cs) ∙ rw e h
 
@@ -122,7 +136,8 @@ pub prefix_passes : (p : ℕ → Bool) (cs : List ℕ) → list_all p (take (pre
 prefix_passes p [] = refl
 prefix_passes p (c ∷ cs) = passes_by p c cs (p c) refl (prefix_passes p cs)
 
-line-right : (broken : Bool) (c : ℕ) (cs : List ℕ) → (is_dash c && begins is_dash cs) ≡ true → IsRight (c ∷ cs) (by_front broken c cs front.Line)
+line-right : (broken : Bool) (c : ℕ) (cs : List ℕ) → (is_dash c && begins is_dash cs) ≡ true →
+    IsRight (c ∷ cs) (by_front broken c cs front.Line)
 line-right broken c cs h =
     let parts = both (is_dash c) (begins is_dash cs) h in
     line_from c cs (eqb-true c 45 parts.0) (begins_with 45 cs parts.1)
@@ -134,11 +149,15 @@ line-right broken c cs h =
         ap (λ (es : List ℕ). 45 ∷ es) (sym (take_first n 45 ds)) ∙ sym (take_one (1 + n) 45 (45 ∷ ds)) in
         subst IsGap same (is_line (take n ds) (prefix_passes (λ x. not (x == 10)) ds))
 
-    line_from : (x : ℕ) (ds : List ℕ) → x ≡ 45 → ds ≡ 45 ∷ drop 1 ds → IsGap (take (prefix_len (λ y. not (y == 10)) ds + 1) (x ∷ ds))
+    line_from : (x : ℕ) (ds : List ℕ) → x ≡ 45 → ds ≡ 45 ∷ drop 1 ds →
+        IsGap (take (prefix_len (λ y. not (y == 10)) ds + 1) (x ∷ ds))
     line_from x ds is e =
-        let same : 45 ∷ 45 ∷ drop 1 ds ≡ x ∷ ds = ap (λ (y : ℕ). y ∷ 45 ∷ drop 1 ds) (sym is) ∙ ap (λ (es : List ℕ). x ∷ es) (sym e) in
+        let same : 45 ∷ 45 ∷ drop 1 ds ≡ x ∷ ds =
+        ap (λ (y : ℕ). y ∷ 45 ∷ drop 1 ds) (sym is) ∙ ap (λ (es : List ℕ). x ∷ es) (sym e) in
         let at = line_at (drop 1 ds) in
-        let there : IsGap (take (prefix_len (λ y. not (y == 10)) ds + 1) (45 ∷ 45 ∷ drop 1 ds)) = subst (λ (es : List ℕ). IsGap (take (prefix_len (λ y. not (y == 10)) es + 1) (45 ∷ 45 ∷ drop 1 ds))) (sym e) at in
+        let there : IsGap (take (prefix_len (λ y. not (y == 10)) ds + 1) (45 ∷ 45 ∷ drop 1 ds)) =
+        subst (λ (es : List ℕ). IsGap (take (prefix_len (λ y. not (y == 10)) es + 1) (45 ∷ 45 ∷ drop 1 ds)))
+        (sym e) at in
         subst (λ (es : List ℕ). IsGap (take (prefix_len (λ y. not (y == 10)) ds + 1) es)) same there
 
 -- Texts
@@ -149,29 +168,41 @@ SpellsIn cs LineEnds = Unit {0}
 SpellsIn cs (TextEnds n) = Unit {0}
 SpellsIn cs (BadEscape n) = Unit {0}
 
-spells_if : (b : Bool) (cs : List ℕ) (q r : Quotation) → (b ≡ true → SpellsIn cs q) → (b ≡ false → SpellsIn cs r) → SpellsIn cs (cond b q r)
+spells_if : (b : Bool) (cs : List ℕ) (q r : Quotation) → (b ≡ true → SpellsIn cs q) →
+    (b ≡ false → SpellsIn cs r) → SpellsIn cs (cond b q r)
 spells_if true cs q r h k = h refl
 spells_if false cs q r h k = k refl
 
 spells_closed : (c : ℕ) (cs : List ℕ) → (c == 34) ≡ true → SpellsIn (c ∷ cs) (Closed [] 1)
 spells_closed c cs h = ([], ap (λ (x : ℕ). x ∷ []) (eqb-true c 34 h), nothing)
 
-spells_plain : (c : ℕ) (cs : List ℕ) (q : Quotation) → (c == 34) ≡ false → (c == 10) ≡ false → (c == 92) ≡ false → SpellsIn cs q → SpellsIn (c ∷ cs) (preceded c 1 q)
-spells_plain c cs (Closed value n) h i j m =
-    (c ∷ m.0, take_first n c cs ∙ ap (λ (ds : List ℕ). c ∷ ds) m.1, plain c m.0 value (encode_utf8 c ++ value) (eqb-false c 34 h) (eqb-false c 10 i) (eqb-false c 92 j) m.2 refl)
+spells_plain : (c : ℕ) (cs : List ℕ) (q : Quotation) → (c == 34) ≡ false → (c == 10) ≡ false →
+    (c == 92) ≡ false → SpellsIn cs q → SpellsIn (c ∷ cs) (preceded c 1 q)
+spells_plain c cs (Closed value n) h i j m = (
+  c ∷ m.0,
+  take_first n c cs ∙ ap (λ (ds : List ℕ). c ∷ ds) m.1,
+  plain c m.0 value (encode_utf8 c ++ value)
+      (eqb-false c 34 h) (eqb-false c 10 i) (eqb-false c 92 j) m.2 refl,
+)
 spells_plain c cs LineEnds h i j m = tt
 spells_plain c cs (TextEnds n) h i j m = tt
 spells_plain c cs (BadEscape n) h i j m = tt
 
-spells_escaped : (x e c : ℕ) (cs : List ℕ) (q : Quotation) → x ≡ 92 → (e == 10) ≡ false → escape e ≡ Some c → SpellsIn cs q → SpellsIn (x ∷ e ∷ cs) (preceded c 2 q)
+spells_escaped : (x e c : ℕ) (cs : List ℕ) (q : Quotation) → x ≡ 92 → (e == 10) ≡ false → escape e ≡ Some c →
+    SpellsIn cs q → SpellsIn (x ∷ e ∷ cs) (preceded c 2 q)
 spells_escaped x e c cs (Closed value n) is h k m =
-    let two : 2 + n ≡ n + 2 = omega arith in
-    (92 ∷ e ∷ m.0, ap (λ (j : ℕ). take j (x ∷ e ∷ cs)) two ∙ take_two n x e cs ∙ ap (λ (y : ℕ). y ∷ e ∷ take n cs) is ∙ ap (λ (ds : List ℕ). 92 ∷ e ∷ ds) m.1, escaped e c m.0 value (encode_utf8 c ++ value) (eqb-false e 10 h) k m.2 refl)
+    let two : 2 + n ≡ n + 2 = omega arith in (
+      92 ∷ e ∷ m.0,
+      ap (λ (j : ℕ). take j (x ∷ e ∷ cs)) two ∙ take_two n x e cs ∙
+          ap (λ (y : ℕ). y ∷ e ∷ take n cs) is ∙ ap (λ (ds : List ℕ). 92 ∷ e ∷ ds) m.1,
+      escaped e c m.0 value (encode_utf8 c ++ value) (eqb-false e 10 h) k m.2 refl,
+    )
 spells_escaped x e c cs LineEnds is h k m = tt
 spells_escaped x e c cs (TextEnds n) is h k m = tt
 spells_escaped x e c cs (BadEscape n) is h k m = tt
 
-spells_escape : (x e : ℕ) (cs : List ℕ) (o : Option ℕ) (q : Quotation) → escape e ≡ o → x ≡ 92 → (e == 10) ≡ false → SpellsIn cs q → SpellsIn (x ∷ e ∷ cs) (by_escape o q)
+spells_escape : (x e : ℕ) (cs : List ℕ) (o : Option ℕ) (q : Quotation) → escape e ≡ o → x ≡ 92 →
+    (e == 10) ≡ false → SpellsIn cs q → SpellsIn (x ∷ e ∷ cs) (by_escape o q)
 spells_escape x e cs None q k is h m = tt
 spells_escape x e cs (Some c) q k is h m = spells_escaped x e c cs q is h k m
 
@@ -179,14 +210,17 @@ quoted-spells : (cs : List ℕ) → SpellsIn cs (quoted cs)
 unfolding quoted
 quoted-spells [] = tt
 quoted-spells (c ∷ []) =
-    spells_if (c == 34) (c ∷ []) _ _ (spells_closed c []) (λ h. spells_if (c == 10) (c ∷ []) LineEnds (TextEnds 1) (λ i. tt) (λ i. tt))
+    spells_if (c == 34) (c ∷ []) _ _ (spells_closed c [])
+    (λ h. spells_if (c == 10) (c ∷ []) LineEnds (TextEnds 1) (λ i. tt) (λ i. tt))
 quoted-spells (c ∷ e ∷ cs) =
     let escapes = cond (e == 10) LineEnds (by_escape (escape e) (quoted cs)) in
     let plainly = preceded c 1 (quoted (e ∷ cs)) in
-    spells_if (c == 34) (c ∷ e ∷ cs) (Closed [] 1) (cond (c == 10) LineEnds (cond (c == 92) escapes plainly)) (spells_closed c (e ∷ cs))
+    spells_if (c == 34) (c ∷ e ∷ cs) (Closed [] 1) (cond (c == 10) LineEnds (cond (c == 92) escapes plainly))
+    (spells_closed c (e ∷ cs))
     (λ h. spells_if (c == 10) (c ∷ e ∷ cs) LineEnds (cond (c == 92) escapes plainly) (λ i. tt)
     (λ i. spells_if (c == 92) (c ∷ e ∷ cs) escapes plainly
-    (λ j. spells_if (e == 10) (c ∷ e ∷ cs) LineEnds (by_escape (escape e) (quoted cs)) (λ k. tt) (λ k. spells_escape c e cs (escape e) (quoted cs) refl (eqb-true c 92 j) k (quoted-spells cs)))
+    (λ j. spells_if (e == 10) (c ∷ e ∷ cs) LineEnds (by_escape (escape e) (quoted cs)) (λ k. tt)
+    (λ k. spells_escape c e cs (escape e) (quoted cs) refl (eqb-true c 92 j) k (quoted-spells cs)))
     (λ j. spells_plain c (e ∷ cs) (quoted (e ∷ cs)) h i j (quoted-spells (e ∷ cs)))))
 
 text_right : (broken : Bool) (cs : List ℕ) (q : Quotation) → SpellsIn cs q → IsRight (34 ∷ cs) (text_of broken q)
@@ -197,9 +231,11 @@ text_right true cs (TextEnds n) m = tt
 text_right false cs (TextEnds n) m = tt
 text_right broken cs (BadEscape n) m = tt
 
-text-right : (broken : Bool) (c : ℕ) (cs : List ℕ) → (c == 34) ≡ true → IsRight (c ∷ cs) (by_front broken c cs front.Text)
+text-right : (broken : Bool) (c : ℕ) (cs : List ℕ) →
+    (c == 34) ≡ true → IsRight (c ∷ cs) (by_front broken c cs front.Text)
 text-right broken c cs h =
-    subst (λ (x : ℕ). IsRight (x ∷ cs) (text_of broken (quoted cs))) (sym (eqb-true c 34 h)) (text_right broken cs (quoted cs) (quoted-spells cs))
+    subst (λ (x : ℕ). IsRight (x ∷ cs) (text_of broken (quoted cs))) (sym (eqb-true c 34 h))
+    (text_right broken cs (quoted cs) (quoted-spells cs))
 
 -- Names and holes
 
@@ -207,7 +243,8 @@ starts_tail : (x : ℕ) (cs : List ℕ) → begins_part x ≡ true → name_tail
 unfolding name_tail
 starts_tail x cs h = rw (continues_part-begins x h) refl
 
-goes_on_by : (b : Bool) (c : ℕ) (cs : List ℕ) → continues_part c ≡ b → goes_on c cs ≡ true → goes_on c (take (name_tail cs) cs) ≡ true
+goes_on_by : (b : Bool) (c : ℕ) (cs : List ℕ) → continues_part c ≡ b → goes_on c cs ≡ true →
+    goes_on c (take (name_tail cs) cs) ≡ true
 unfolding name_tail
 goes_on_by true c cs e h = rw e refl
 goes_on_by false c [] e h = h
@@ -221,7 +258,8 @@ goes_on_by false c (x ∷ cs) e h =
 goes_on_front : (c : ℕ) (cs : List ℕ) → goes_on c cs ≡ true → goes_on c (take (name_tail cs) cs) ≡ true
 goes_on_front c cs h = goes_on_by (continues_part c) c cs refl h
 
-all_by : (b : Bool) (c : ℕ) (cs : List ℕ) → goes_on c cs ≡ b → all_go_on (take (name_tail cs) cs) ≡ true → all_go_on (take (cond b (name_tail cs + 1) 0) (c ∷ cs)) ≡ true
+all_by : (b : Bool) (c : ℕ) (cs : List ℕ) → goes_on c cs ≡ b → all_go_on (take (name_tail cs) cs) ≡ true →
+    all_go_on (take (cond b (name_tail cs + 1) 0) (c ∷ cs)) ≡ true
 all_by false c cs e h = refl
 all_by true c cs e h = ap all_go_on (take_one (name_tail cs) c cs) ∙ rw (goes_on_front c cs e) h
 
@@ -230,10 +268,13 @@ unfolding name_tail
 name_tail-all_go_on [] = refl
 name_tail-all_go_on (c ∷ cs) = all_by (goes_on c cs) c cs refl (name_tail-all_go_on cs)
 
-name_front : (c : ℕ) (cs : List ℕ) → begins_part c ≡ true → has_long_part (encode_utf8_all (c ∷ take (name_tail cs) cs)) ≡ false → IsName c (take (name_tail cs) cs)
+name_front : (c : ℕ) (cs : List ℕ) → begins_part c ≡ true →
+    has_long_part (encode_utf8_all (c ∷ take (name_tail cs) cs)) ≡ false → IsName c (take (name_tail cs) cs)
 name_front c cs h k = record { begins = h; goes_on = name_tail-all_go_on cs; short = k }
 
-word_if : (b : Bool) (n : ℕ) (ds word : List ℕ) → (b ≡ false → IsToken (unwrap_or (reserved word) (kind.Name word)) (take n ds)) → IsRight ds (cond b (Wrong NameTooLong 0 n) (Token (unwrap_or (reserved word) (kind.Name word)) n))
+word_if : (b : Bool) (n : ℕ) (ds word : List ℕ) →
+    (b ≡ false → IsToken (unwrap_or (reserved word) (kind.Name word)) (take n ds)) →
+    IsRight ds (cond b (Wrong NameTooLong 0 n) (Token (unwrap_or (reserved word) (kind.Name word)) n))
 word_if true n ds word h = tt
 word_if false n ds word h = h refl
 
@@ -245,30 +286,39 @@ unfolding name_at
 name-right c cs h =
     let n = name_tail cs in
     let same = take_one n c cs in
-    word_if (has_long_part (encode_utf8_all (take (n + 1) (c ∷ cs)))) (n + 1) (c ∷ cs) (encode_utf8_all (take (n + 1) (c ∷ cs)))
+    word_if (has_long_part (encode_utf8_all (take (n + 1) (c ∷ cs)))) (n + 1) (c ∷ cs)
+    (encode_utf8_all (take (n + 1) (c ∷ cs)))
     (λ k. subst (λ (ds : List ℕ). IsToken (kind_of_word ds) ds) (sym same)
-    (is_word c (take n cs) _ (name_front c cs h (ap (λ (ds : List ℕ). has_long_part (encode_utf8_all ds)) (sym same) ∙ k)) refl))
+    (is_word c (take n cs) _ (name_front c cs h
+    (ap (λ (ds : List ℕ). has_long_part (encode_utf8_all ds)) (sym same) ∙ k)) refl))
 
-hole_if : (a b : Bool) (n c : ℕ) (ds word : List ℕ) → (a ≡ true → b ≡ false → IsToken (kind.Hole word) (take (n + 1) ds)) → IsRight ds (cond a (cond b (Wrong NameTooLong 1 n) (Token (kind.Hole word) (n + 1))) (bad c))
+hole_if : (a b : Bool) (n c : ℕ) (ds word : List ℕ) →
+    (a ≡ true → b ≡ false → IsToken (kind.Hole word) (take (n + 1) ds)) →
+    IsRight ds (cond a (cond b (Wrong NameTooLong 1 n) (Token (kind.Hole word) (n + 1))) (bad c))
 hole_if true true n c ds word h = tt
 hole_if true false n c ds word h = h refl refl
 hole_if false b n c ds word h = tt
 
-hole_named : (c : ℕ) (cs : List ℕ) → begins_part c ≡ true → IsRight (63 ∷ c ∷ cs) (hole_of (name_tail cs + 1) (encode_utf8_all (take (name_tail cs + 1) (c ∷ cs))))
+hole_named : (c : ℕ) (cs : List ℕ) → begins_part c ≡ true →
+    IsRight (63 ∷ c ∷ cs) (hole_of (name_tail cs + 1) (encode_utf8_all (take (name_tail cs + 1) (c ∷ cs))))
 hole_named c cs h =
     let n = name_tail cs in
     let same = take_one n c cs in
     let word = encode_utf8_all (take (n + 1) (c ∷ cs)) in
     hole_if (names_hole word) (has_long_part word) (n + 1) 63 (63 ∷ c ∷ cs) word
-    (λ a b. subst (IsToken (kind.Hole word)) (ap (λ (ds : List ℕ). 63 ∷ ds) (sym same) ∙ sym (take_one (n + 1) 63 (c ∷ cs)))
-    (is_hole c (take n cs) word (name_front c cs h (ap (λ (ds : List ℕ). has_long_part (encode_utf8_all ds)) (sym same) ∙ b)) (ap encode_utf8_all same) a))
+    (λ a b. subst (IsToken (kind.Hole word))
+    (ap (λ (ds : List ℕ). 63 ∷ ds) (sym same) ∙ sym (take_one (n + 1) 63 (c ∷ cs)))
+    (is_hole c (take n cs) word
+    (name_front c cs h (ap (λ (ds : List ℕ). has_long_part (encode_utf8_all ds)) (sym same) ∙ b))
+    (ap encode_utf8_all same) a))
 
 hole_at-right : (cs : List ℕ) → IsRight (63 ∷ cs) (hole_at cs)
 unfolding hole_at
 hole_at-right [] = tt
 hole_at-right (c ∷ cs) = right_if (begins_part c) (63 ∷ c ∷ cs) _ (bad 63) (λ h. hole_named c cs h) (λ h. tt)
 
-hole-right : (broken : Bool) (c : ℕ) (cs : List ℕ) → (c == 63) ≡ true → IsRight (c ∷ cs) (by_front broken c cs front.Hole)
+hole-right : (broken : Bool) (c : ℕ) (cs : List ℕ) →
+    (c == 63) ≡ true → IsRight (c ∷ cs) (by_front broken c cs front.Hole)
 hole-right broken c cs h = subst (λ (x : ℕ). IsRight (x ∷ cs) (hole_at cs)) (sym (eqb-true c 63 h)) (hole_at-right cs)
 
 -- Numbers
@@ -279,9 +329,11 @@ below a b h = grind (arith, nat_tests)
 at_most : (a b : ℕ) → nat_le a b ≡ true → a ≤ b
 at_most a b h = grind (arith, nat_tests)
 
-number_front : (c : ℕ) (cs : List ℕ) → is_ascii_digit c ≡ true → take (prefix_len is_ascii_digit (c ∷ cs)) (c ∷ cs) ≡ c ∷ take (prefix_len is_ascii_digit cs) cs
+number_front : (c : ℕ) (cs : List ℕ) → is_ascii_digit c ≡ true →
+    take (prefix_len is_ascii_digit (c ∷ cs)) (c ∷ cs) ≡ c ∷ take (prefix_len is_ascii_digit cs) cs
 number_front c cs h =
-    ap (λ (b : Bool). take (cond b (1 + prefix_len is_ascii_digit cs) 0) (c ∷ cs)) h ∙ take_first (prefix_len is_ascii_digit cs) c cs
+    ap (λ (b : Bool). take (cond b (1 + prefix_len is_ascii_digit cs) 0) (c ∷ cs)) h ∙
+    take_first (prefix_len is_ascii_digit cs) c cs
 
 number-right : (c : ℕ) (cs : List ℕ) → is_ascii_digit c ≡ true → IsRight (c ∷ cs) (number_at false (c ∷ cs))
 unfolding number_at
@@ -289,9 +341,12 @@ number-right c cs h =
     let n = prefix_len is_ascii_digit (c ∷ cs) in
     let ds = take (prefix_len is_ascii_digit cs) cs in
     let same = number_front c cs h in
-    right_if (nat_lt (decimal (take n (c ∷ cs))) (2 ^ 63)) (c ∷ cs) (Token (kind.Number (pos (decimal (take n (c ∷ cs))))) n) _
+    right_if (nat_lt (decimal (take n (c ∷ cs))) (2 ^ 63)) (c ∷ cs)
+    (Token (kind.Number (pos (decimal (take n (c ∷ cs))))) n) _
     (λ k. subst (IsToken (kind.Number (pos (decimal (take n (c ∷ cs)))))) (sym same)
-    (is_number c (decimal (take n (c ∷ cs))) ds (ap (list_all is_ascii_digit) (sym same) ∙ prefix_passes is_ascii_digit (c ∷ cs)) (ap decimal same) (below (decimal (take n (c ∷ cs))) (2 ^ 63) k)))
+    (is_number c (decimal (take n (c ∷ cs))) ds
+    (ap (list_all is_ascii_digit) (sym same) ∙ prefix_passes is_ascii_digit (c ∷ cs)) (ap decimal same)
+    (below (decimal (take n (c ∷ cs))) (2 ^ 63) k)))
     (λ k. tt)
 
 negative_right : (c : ℕ) (cs : List ℕ) → is_ascii_digit c ≡ true → IsRight (45 ∷ c ∷ cs) (number_at true (c ∷ cs))
@@ -300,27 +355,34 @@ negative_right c cs h =
     let n = prefix_len is_ascii_digit (c ∷ cs) in
     let ds = take (prefix_len is_ascii_digit cs) cs in
     let same = number_front c cs h in
-    right_if (nat_le (decimal (take n (c ∷ cs))) (2 ^ 63)) (45 ∷ c ∷ cs) (Token (kind.Number (neg_ℤ (pos (decimal (take n (c ∷ cs)))))) (n + 1)) _
-    (λ k. subst (IsToken (kind.Number (neg_ℤ (pos (decimal (take n (c ∷ cs))))))) (ap (λ (es : List ℕ). 45 ∷ es) (sym same) ∙ sym (take_one n 45 (c ∷ cs)))
-    (is_negative c (decimal (take n (c ∷ cs))) ds (ap (list_all is_ascii_digit) (sym same) ∙ prefix_passes is_ascii_digit (c ∷ cs)) (ap decimal same) (at_most (decimal (take n (c ∷ cs))) (2 ^ 63) k)))
+    right_if (nat_le (decimal (take n (c ∷ cs))) (2 ^ 63)) (45 ∷ c ∷ cs)
+    (Token (kind.Number (neg_ℤ (pos (decimal (take n (c ∷ cs)))))) (n + 1)) _
+    (λ k. subst (IsToken (kind.Number (neg_ℤ (pos (decimal (take n (c ∷ cs)))))))
+    (ap (λ (es : List ℕ). 45 ∷ es) (sym same) ∙ sym (take_one n 45 (c ∷ cs)))
+    (is_negative c (decimal (take n (c ∷ cs))) ds
+    (ap (list_all is_ascii_digit) (sym same) ∙ prefix_passes is_ascii_digit (c ∷ cs)) (ap decimal same)
+    (at_most (decimal (take n (c ∷ cs))) (2 ^ 63) k)))
     (λ k. tt)
 
 negative_from : (cs : List ℕ) → begins is_ascii_digit cs ≡ true → IsRight (45 ∷ cs) (number_at true cs)
 negative_from [] h = cc
 negative_from (c ∷ cs) h = negative_right c cs h
 
-negative-right : (broken : Bool) (c : ℕ) (cs : List ℕ) → (is_dash c && begins is_ascii_digit cs) ≡ true → IsRight (c ∷ cs) (by_front broken c cs front.Negative)
+negative-right : (broken : Bool) (c : ℕ) (cs : List ℕ) → (is_dash c && begins is_ascii_digit cs) ≡ true →
+    IsRight (c ∷ cs) (by_front broken c cs front.Negative)
 negative-right broken c cs h =
     let parts = both (is_dash c) (begins is_ascii_digit cs) h in
     subst (λ (x : ℕ). IsRight (x ∷ cs) (number_at true cs)) (sym (eqb-true c 45 parts.0)) (negative_from cs parts.1)
 
 -- Symbols
 
-one_right : (c : ℕ) (cs : List ℕ) (o : Option TokenKind) → listed singles (c ∷ []) ≡ o → IsRight (c ∷ cs) (symbol_of c (sized 1 o))
+one_right : (c : ℕ) (cs : List ℕ) (o : Option TokenKind) → listed singles (c ∷ []) ≡ o →
+    IsRight (c ∷ cs) (symbol_of c (sized 1 o))
 one_right c cs None h = tt
 one_right c cs (Some k) h = is_one c k h
 
-two_right : (c e : ℕ) (cs : List ℕ) (o : Option TokenKind) → listed pairs (c ∷ e ∷ []) ≡ o → IsRight (c ∷ e ∷ cs) (symbol_of c (or_else (sized 2 o) (of_one c)))
+two_right : (c e : ℕ) (cs : List ℕ) (o : Option TokenKind) → listed pairs (c ∷ e ∷ []) ≡ o →
+    IsRight (c ∷ e ∷ cs) (symbol_of c (or_else (sized 2 o) (of_one c)))
 two_right c e cs None h = one_right c (e ∷ cs) (listed singles (c ∷ [])) refl
 two_right c e cs (Some k) h = is_two c e k h
 
@@ -342,7 +404,8 @@ Says front.Number c cs = is_ascii_digit c ≡ true
 Says front.Negative c cs = (is_dash c && begins is_ascii_digit cs) ≡ true
 Says front.Symbol c cs = Unit {0}
 
-says_if : (b : Bool) (f g : Front) (c : ℕ) (cs : List ℕ) → (b ≡ true → Says f c cs) → Says g c cs → Says (cond b f g) c cs
+says_if : (b : Bool) (f g : Front) (c : ℕ) (cs : List ℕ) → (b ≡ true → Says f c cs) → Says g c cs →
+    Says (cond b f g) c cs
 says_if true f g c cs h k = h refl
 says_if false f g c cs h k = k
 
@@ -357,7 +420,8 @@ front_of-says c cs =
     (says_if (is_ascii_digit c) front.Number _ c cs (λ h. h)
     (says_if (is_dash c && begins is_ascii_digit cs) front.Negative front.Symbol c cs (λ h. h) tt)))))))
 
-front_right : (broken : Bool) (c : ℕ) (cs : List ℕ) (f : Front) → Says f c cs → IsRight (c ∷ cs) (by_front broken c cs f)
+front_right : (broken : Bool) (c : ℕ) (cs : List ℕ) (f : Front) → Says f c cs →
+    IsRight (c ∷ cs) (by_front broken c cs f)
 front_right broken c cs front.Blank h = is_blank_gap c h
 front_right broken c cs front.Line h = line-right broken c cs h
 front_right broken c cs front.Comment h = comment-right broken c cs h

@@ -12,7 +12,8 @@ unfolding symbol_at
 symbol_at-one cs [] c is h = sym (ap symbol_at is)
 symbol_at-one cs (e ∷ rest) c is h = absurd (omega (arith, h))
 
-pub symbol_at-two : (cs behind rest : List ℕ) (c e : ℕ) → cs ≡ c ∷ behind → behind ≡ e ∷ rest → of_two c e ≡ symbol_at cs
+pub symbol_at-two : (cs behind rest : List ℕ) (c e : ℕ) → cs ≡ c ∷ behind → behind ≡ e ∷ rest →
+    of_two c e ≡ symbol_at cs
 unfolding symbol_at
 symbol_at-two cs behind rest c e is behind_is =
     sym (ap symbol_at (is ∙ ap (λ (ds : List ℕ). c ∷ ds) behind_is))

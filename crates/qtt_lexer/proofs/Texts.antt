@@ -35,23 +35,30 @@ quoted-plain c [] h i j = grind (arith, nat_tests)
 quoted-plain c (e ∷ cs) h i j = grind (arith, nat_tests)
 
 -- one step over so many characters, of which the rest is given
-step_over : (c n : ℕ) (cs rest : List ℕ) → length cs ≡ n + length rest → 0 < n → quoted cs ≡ preceded c n (quoted rest) → (length rest < length cs) × (quoted cs ≡ preceded c (length cs - length rest) (quoted rest))
+step_over : (c n : ℕ) (cs rest : List ℕ) → length cs ≡ n + length rest → 0 < n →
+    quoted cs ≡ preceded c n (quoted rest) →
+    (length rest < length cs) × (quoted cs ≡ preceded c (length cs - length rest) (quoted rest))
 step_over c n cs rest e lt h =
     let same : n ≡ length cs - length rest = omega (arith, e) in
     (omega (arith, e, lt), h ∙ ap (λ (m : ℕ). preceded c m (quoted rest)) same)
 
-pub plain_step : (cs rest : List ℕ) (c : ℕ) → cs ≡ c ∷ rest → c ≢ 34 → c ≢ 10 → c ≢ 92 → (length rest < length cs) × (quoted cs ≡ preceded c (length cs - length rest) (quoted rest))
+pub plain_step : (cs rest : List ℕ) (c : ℕ) → cs ≡ c ∷ rest → c ≢ 34 → c ≢ 10 → c ≢ 92 →
+    (length rest < length cs) × (quoted cs ≡ preceded c (length cs - length rest) (quoted rest))
 plain_step cs rest c e h i j =
     step_over c 1 cs rest (omega (arith, ap length e)) (omega arith) (ap quoted e ∙ quoted-plain c rest h i j)
 
-pub escape_step : (cs rest : List ℕ) (e c : ℕ) → cs ≡ e ∷ rest → e ≢ 10 → Some c ≡ escape e → (length rest < suc (length cs)) × (quoted (92 ∷ cs) ≡ preceded c (suc (length cs) - length rest) (quoted rest))
+pub escape_step : (cs rest : List ℕ) (e c : ℕ) → cs ≡ e ∷ rest → e ≢ 10 → Some c ≡ escape e →
+    (length rest < suc (length cs)) ×
+    (quoted (92 ∷ cs) ≡ preceded c (suc (length cs) - length rest) (quoted rest))
 escape_step cs rest e c is h k =
     step_over c 2 (92 ∷ cs) rest (omega (arith, ap length is)) (omega arith)
-    (ap (λ (ds : List ℕ). quoted (92 ∷ ds)) is ∙ quoted-escape e rest h ∙ ap (λ (o : Option ℕ). by_escape o (quoted rest)) (sym k))
+    (ap (λ (ds : List ℕ). quoted (92 ∷ ds)) is ∙ quoted-escape e rest h ∙
+    ap (λ (o : Option ℕ). by_escape o (quoted rest)) (sym k))
 
 pub bad_step : (cs rest : List ℕ) (e : ℕ) → cs ≡ e ∷ rest → e ≢ 10 → None ≡ escape e → quoted (92 ∷ cs) ≡ BadEscape 0
 bad_step cs rest e is h k =
-    ap (λ (ds : List ℕ). quoted (92 ∷ ds)) is ∙ quoted-escape e rest h ∙ ap (λ (o : Option ℕ). by_escape o (quoted rest)) (sym k)
+    ap (λ (ds : List ℕ). quoted (92 ∷ ds)) is ∙ quoted-escape e rest h ∙
+    ap (λ (o : Option ℕ). by_escape o (quoted rest)) (sym k)
 
 pub cut_step : (cs rest : List ℕ) (e : ℕ) → cs ≡ e ∷ rest → e ≡ 10 → quoted (92 ∷ cs) ≡ LineEnds
 cut_step cs rest e is h =
@@ -81,7 +88,8 @@ follows value n (TextEnds m) = TextEnds (n + m)
 follows value n (BadEscape m) = BadEscape (n + m)
 
 -- what a backslash before the rest does, it does where it stands
-pub escaped_from : (cs rest : List ℕ) (c : ℕ) (step : Step) → cs ≡ c ∷ rest → c ≡ 92 → IsStep (92 ∷ rest) step → IsStep cs step
+pub escaped_from : (cs rest : List ℕ) (c : ℕ) (step : Step) → cs ≡ c ∷ rest → c ≡ 92 → IsStep (92 ∷ rest) step →
+    IsStep cs step
 escaped_from cs rest c step is e h =
     let same : 92 ∷ rest ≡ cs = ap (λ (x : ℕ). x ∷ rest) (sym e) ∙ sym is in
     subst (λ (ds : List ℕ). IsStep ds step) same h

@@ -27,7 +27,9 @@ listed_none (pair ∷ pairs) word h =
     ap (λ (b : Bool). cond b (Some pair.1) (listed pairs word)) (unequal word pair.0 h.0) ∙ listed_none pairs word h.1
 
 -- how a name goes on from the character at i
-tail_at : (b : Bool) (cs : List ℕ) (i c : ℕ) → i < length cs → c ≡ get_or cs i c → b ≡ goes_on c (take (length cs - (i + 1)) (drop (i + 1) cs)) → name_tail (drop i cs) ≡ cond b (name_tail (drop (i + 1) cs) + 1) 0
+tail_at : (b : Bool) (cs : List ℕ) (i c : ℕ) → i < length cs → c ≡ get_or cs i c →
+    b ≡ goes_on c (take (length cs - (i + 1)) (drop (i + 1) cs)) →
+    name_tail (drop i cs) ≡ cond b (name_tail (drop (i + 1) cs) + 1) 0
 unfolding name_tail
 tail_at b cs i c lt e h =
     let rest = drop (i + 1) cs in
@@ -36,10 +38,13 @@ tail_at b cs i c lt e h =
     ∙ ap (λ (cs' : List ℕ). cond (goes_on c cs') (name_tail rest + 1) 0) (sym (take_rest cs (i + 1)))
     ∙ ap (λ (x : Bool). cond x (name_tail rest + 1) 0) (sym h)
 
-pub tail_stops : (cs : List ℕ) (i c : ℕ) → i < length cs → c ≡ get_or cs i c → false ≡ goes_on c (take (length cs - (i + 1)) (drop (i + 1) cs)) → name_tail (drop i cs) ≡ 0
+pub tail_stops : (cs : List ℕ) (i c : ℕ) → i < length cs → c ≡ get_or cs i c →
+    false ≡ goes_on c (take (length cs - (i + 1)) (drop (i + 1) cs)) → name_tail (drop i cs) ≡ 0
 tail_stops cs i c lt e h = tail_at false cs i c lt e h
 
-pub tail_goes_on : (cs : List ℕ) (i c : ℕ) → i < length cs → c ≡ get_or cs i c → true ≡ goes_on c (take (length cs - (i + 1)) (drop (i + 1) cs)) → name_tail (drop i cs) ≡ name_tail (drop (i + 1) cs) + 1
+pub tail_goes_on : (cs : List ℕ) (i c : ℕ) → i < length cs → c ≡ get_or cs i c →
+    true ≡ goes_on c (take (length cs - (i + 1)) (drop (i + 1) cs)) →
+    name_tail (drop i cs) ≡ name_tail (drop (i + 1) cs) + 1
 tail_goes_on cs i c lt e h = tail_at true cs i c lt e h
 
 pub tail_end : (cs : List ℕ) (i : ℕ) → length cs ≤ i → name_tail (drop i cs) ≡ 0
@@ -55,7 +60,8 @@ unfolding name_tail
 name_tail-le-length [] = omega arith
 name_tail-le-length (c ∷ cs) = tail_step (goes_on c cs) (name_tail cs) (length cs) (name_tail-le-length cs)
 
-pub spelled_more : (cs : List ℕ) (i c : ℕ) → i < length cs → c ≡ get_or cs i c → encode_utf8_all (take (i + 1) cs) ≡ encode_utf8_all (take i cs) ++ encode_utf8 c
+pub spelled_more : (cs : List ℕ) (i c : ℕ) → i < length cs → c ≡ get_or cs i c →
+    encode_utf8_all (take (i + 1) cs) ≡ encode_utf8_all (take i cs) ++ encode_utf8 c
 spelled_more cs i c lt e =
     ap encode_utf8_all (take_more cs i c lt)
     ∙ encodes-append (take i cs) (get_or cs i c ∷ [])

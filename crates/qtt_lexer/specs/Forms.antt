@@ -30,23 +30,32 @@ pub record IsName (c : ℕ) (cs : List ℕ) : Type 0 where
 -- the characters of a text between its quotes, and the value that they spell
 pub data Spells : List ℕ → List ℕ → Type 0 where
   nothing : Spells [] []
-  plain : (c : ℕ) (body rest value : List ℕ) → c ≢ 34 → c ≢ 10 → c ≢ 92 → Spells body rest → value ≡ encode_utf8 c ++ rest → Spells (c ∷ body) value
-  escaped : (e c : ℕ) (body rest value : List ℕ) → e ≢ 10 → escape e ≡ Some c → Spells body rest → value ≡ encode_utf8 c ++ rest → Spells (92 ∷ e ∷ body) value
+  plain : (c : ℕ) (body rest value : List ℕ) → c ≢ 34 → c ≢ 10 → c ≢ 92 → Spells body rest →
+      value ≡ encode_utf8 c ++ rest → Spells (c ∷ body) value
+  escaped : (e c : ℕ) (body rest value : List ℕ) → e ≢ 10 → escape e ≡ Some c → Spells body rest →
+      value ≡ encode_utf8 c ++ rest → Spells (92 ∷ e ∷ body) value
 
 -- the characters of a comment in which so many others are open, up to and with its `-}`
 pub data Nested : ℕ → List ℕ → Type 0 where
   last : Nested 0 (45 ∷ 125 ∷ [])
   opened : (depth : ℕ) (cs : List ℕ) → Nested (suc depth) cs → Nested depth (123 ∷ 45 ∷ cs)
   closed : (depth : ℕ) (cs : List ℕ) → Nested depth cs → Nested (suc depth) (45 ∷ 125 ∷ cs)
-  other : (depth c e : ℕ) (cs : List ℕ) → opens c e ≡ false → closes c e ≡ false → Nested depth (e ∷ cs) → Nested depth (c ∷ e ∷ cs)
+  other : (depth c e : ℕ) (cs : List ℕ) → opens c e ≡ false → closes c e ≡ false → Nested depth (e ∷ cs) →
+      Nested depth (c ∷ e ∷ cs)
 
 -- the characters of a token of this kind
 pub data IsToken : TokenKind → List ℕ → Type 0 where
-  word : (c : ℕ) (cs : List ℕ) (k : TokenKind) → IsName c cs → k ≡ unwrap_or (reserved (encode_utf8_all (c ∷ cs))) (kind.Name (encode_utf8_all (c ∷ cs))) → IsToken k (c ∷ cs)
-  hole : (c : ℕ) (cs word : List ℕ) → IsName c cs → word ≡ encode_utf8_all (c ∷ cs) → names_hole word ≡ true → IsToken (kind.Hole word) (63 ∷ c ∷ cs)
-  number : (c n : ℕ) (cs : List ℕ) → list_all is_ascii_digit (c ∷ cs) ≡ true → n ≡ decimal (c ∷ cs) → n < 2 ^ 63 → IsToken (kind.Number (pos n)) (c ∷ cs)
-  negative : (c n : ℕ) (cs : List ℕ) → list_all is_ascii_digit (c ∷ cs) ≡ true → n ≡ decimal (c ∷ cs) → n ≤ 2 ^ 63 → IsToken (kind.Number (neg_ℤ (pos n))) (45 ∷ c ∷ cs)
-  text : (body value : List ℕ) (cs : List ℕ) → Spells body value → cs ≡ 34 ∷ (body ++ 34 ∷ []) → IsToken (kind.Text value) cs
+  word : (c : ℕ) (cs : List ℕ) (k : TokenKind) → IsName c cs →
+      k ≡ unwrap_or (reserved (encode_utf8_all (c ∷ cs))) (kind.Name (encode_utf8_all (c ∷ cs))) →
+      IsToken k (c ∷ cs)
+  hole : (c : ℕ) (cs word : List ℕ) → IsName c cs → word ≡ encode_utf8_all (c ∷ cs) → names_hole word ≡ true →
+      IsToken (kind.Hole word) (63 ∷ c ∷ cs)
+  number : (c n : ℕ) (cs : List ℕ) → list_all is_ascii_digit (c ∷ cs) ≡ true → n ≡ decimal (c ∷ cs) → n < 2 ^ 63 →
+      IsToken (kind.Number (pos n)) (c ∷ cs)
+  negative : (c n : ℕ) (cs : List ℕ) → list_all is_ascii_digit (c ∷ cs) ≡ true → n ≡ decimal (c ∷ cs) →
+      n ≤ 2 ^ 63 → IsToken (kind.Number (neg_ℤ (pos n))) (45 ∷ c ∷ cs)
+  text : (body value : List ℕ) (cs : List ℕ) → Spells body value → cs ≡ 34 ∷ (body ++ 34 ∷ []) →
+      IsToken (kind.Text value) cs
   one : (c : ℕ) (k : TokenKind) → listed singles (c ∷ []) ≡ Some k → IsToken k (c ∷ [])
   two : (c e : ℕ) (k : TokenKind) → listed pairs (c ∷ e ∷ []) ≡ Some k → IsToken k (c ∷ e ∷ [])
 
@@ -74,16 +83,19 @@ abbrev pub with_token : Place → Cut → Option TokenKind → List Token → Li
 with_token p cut None ts = ts
 with_token p cut (Some k) ts = token k p cut.characters ∷ ts
 
--- the tokens of parts that begin at a place, each at the place behind the characters before it, and End behind all of them
+-- the tokens of parts that begin at a place, each at the place behind the characters before it, and End behind
+-- all of them
 abbrev pub tokens_of : Place → List Cut → List Token
 tokens_of p [] = token kind.End p [] ∷ []
 tokens_of p (cut ∷ cuts) = with_token p cut cut.kind (tokens_of (place_after p cut.characters) cuts)
 
--- a part has the form of its kind, and what goes on behind it has no form together with it: it is the longest that begins there
+-- a part has the form of its kind, and what goes on behind it has no form together with it: it is the longest
+-- that begins there
 pub record IsLongest (cut : Cut) (behind : List ℕ) : Type 0 where
   pub some : 0 < length cut.characters
   pub form : IsPart cut.kind cut.characters
-  pub longest : (o : Option TokenKind) (more rest : List ℕ) → behind ≡ more ++ rest → 0 < length more → IsPart o (cut.characters ++ more) → ⊥
+  pub longest : (o : Option TokenKind) (more rest : List ℕ) → behind ≡ more ++ rest → 0 < length more →
+      IsPart o (cut.characters ++ more) → ⊥
 
 abbrev pub AreLongest : List Cut → Type 0
 AreLongest [] = Unit {0}
@@ -106,7 +118,8 @@ pub record IsText (bytes : List ℕ) (ts : List Token) : Type 0 where
   pub spelled : AreSpelled bytes characters
   pub parts : CutsInto start characters ts
 
--- a fault stands behind some characters at the front of the text: at one of its characters, or directly behind them
+-- a fault stands behind some characters at the front of the text: at one of its characters, or directly behind
+-- them
 pub record HasPlace (bytes : List ℕ) (span : Span) : Type 0 where
   pub before : List ℕ
   pub behind : List ℕ

@@ -57,7 +57,8 @@ abbrev pub put_first : Token → Result (List Token) Mistake → Result (List To
 put_first t (Ok ts) = Ok (t ∷ ts)
 put_first t (Err m) = Err m
 
--- what a piece adds to what follows it, where the last argument gives what follows so many characters more than one
+-- what a piece adds to what follows it, where the last argument gives what follows so many characters more than
+-- one
 abbrev pub by_piece : Place → List ℕ → Piece → (ℕ → Result (List Token) Mistake) → Result (List Token) Mistake
 by_piece p cs (piece.Gap n) behind = behind (n - 1)
 by_piece p cs (piece.Token kind n) behind = put_first (token kind p (take n cs)) (behind (n - 1))
@@ -75,7 +76,8 @@ abbrev pub without_mark : List ℕ → List ℕ
 without_mark [] = []
 without_mark (c ∷ cs) = if c == 0xFEFF then cs else c ∷ cs
 
--- the tokens of a text, or its first fault; the bytes that are read are those before the first that is no part of a character
+-- the tokens of a text, or its first fault; the bytes that are read are those before the first that is no part of
+-- a character
 unfoldable pub lexed : List ℕ → Result (List Token) Mistake
 lexed bytes =
     let n = utf8_valid_len bytes in
@@ -90,7 +92,8 @@ with_front front (Err m) = Err m
 abbrev pub ReadsPiece : Bool → Place → List ℕ → List Token → List Token → ℕ → Type 0
 ReadsPiece broken p cs old new n =
     (0 < n) × (n ≤ length cs)
-    × (with_front new (tokens_from broken (place_after p (take n cs)) 0 (drop n cs)) ≡ with_front old (tokens_from broken p 0 cs))
+    × (with_front new (tokens_from broken (place_after p (take n cs)) 0 (drop n cs)) ≡ with_front old
+    (tokens_from broken p 0 cs))
 
 -- the error is want of memory, or keeps this fault
 abbrev pub Refuses : LexError → Result (List Token) Mistake → Type 0

@@ -47,7 +47,8 @@ reserved word = listed reserved_words word
 
 -- a whole name, a keyword or the wildcard, of so many characters
 abbrev pub word_of : ℕ → List ℕ → Piece
-word_of n word = if has_long_part word then Wrong NameTooLong 0 n else Token (unwrap_or (reserved word) (kind.Name word)) n
+word_of n word = if has_long_part word then Wrong NameTooLong 0 n else Token
+    (unwrap_or (reserved word) (kind.Name word)) n
 
 unfoldable pub name_at : List ℕ → Piece
 name_at cs = word_of (name_length cs) (encode_utf8_all (take (name_length cs) cs))
@@ -81,7 +82,8 @@ decimal digits = fold (λ n c. n * 10 + (c - 48)) 0 digits
 -- a number of so many characters, with or without a `-`
 abbrev pub number_of : Bool → ℕ → ℕ → Piece
 number_of false n value = if nat_lt value (2 ^ 63) then Token (kind.Number (pos value)) n else Wrong NumberTooWide 0 n
-number_of true n value = if nat_le value (2 ^ 63) then Token (kind.Number (neg_ℤ (pos value))) (n + 1) else Wrong NumberTooWide 0 (n + 1)
+number_of true n value = if nat_le value (2 ^ 63) then Token (kind.Number (neg_ℤ (pos value)))
+    (n + 1) else Wrong NumberTooWide 0 (n + 1)
 
 -- what begins with these digits, or with a `-` before them
 unfoldable pub number_at : Bool → List ℕ → Piece
@@ -92,7 +94,8 @@ number_at negative cs =
 
 -- the character that an escape stands for
 abbrev pub escape : ℕ → Option ℕ
-escape c = if c == 110 then Some 10 else (if c == 116 then Some 9 else (if c == 92 then Some 92 else (if c == 34 then Some 34 else None)))
+escape c = if c == 110 then Some 10
+    else (if c == 116 then Some 9 else (if c == 92 then Some 92 else (if c == 34 then Some 34 else None)))
 
 -- the same text behind so many characters that stand for one
 abbrev pub preceded : ℕ → ℕ → Quotation → Quotation

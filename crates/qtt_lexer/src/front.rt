@@ -109,7 +109,8 @@ fn by_front(
 ) -> Result<Piece, MemoryError>
     requires few { length characters.now < 2 ^ 31 }
     requires one_more { length characters.now ≡ length behind.now + 1 }
-    ensures { (c : ℕ) → characters.now ≡ c ∷ behind.now → IfOk result (λ piece. piece ≡ by_front broken c behind.now front) }
+    ensures { (c : ℕ) → characters.now ≡ c ∷ behind.now →
+        IfOk result (λ piece. piece ≡ by_front broken c behind.now front) }
 {
     match front {
         Front::Blank => Ok(Piece::Gap(1)),
@@ -124,7 +125,8 @@ fn by_front(
     }
 }
 
-/// The piece at the front of characters; `broken` says that bytes follow them that are no character.
+/// The piece at the front of characters; `broken` says that bytes follow them that are no
+/// character.
 pub fn piece_at(alloc: Global, broken: bool, characters: &[char]) -> Result<Piece, MemoryError>
     requires { length characters.now < 2 ^ 31 }
     ensures value { IfOk result (λ piece. piece ≡ piece_at broken characters.now) }

@@ -1,7 +1,7 @@
 //! Numbers at the front of characters.
 
 ghost use Rattle.std.specs.Prelude.{◌≡◌, ◌-◌, ◌<◌, ◌≤◌, ◌^◌, IsTrue, min, pos, neg_ℤ, length};
-ghost use Rattle.std.specs.List.{prefix_len, take_while, AllPass};
+ghost use Rattle.std.specs.List.{prefix_len, AllPass};
 ghost use Rattle.std.specs.Char.{is_ascii_digit};
 ghost use Rattle.qtt_lexer.specs.Piece.{decimal, number_of, number_at};
 

@@ -1,9 +1,9 @@
 //! The tokens of a text.
 
-ghost use Rattle.std.specs.Prelude.{◌≡◌, ℕ, ◌+◌, ◌*◌, ◌<◌, ◌≤◌, ◌^◌, List, [], length, take, drop, nat_lt, Err, IfOk, IfErr};
+ghost use Rattle.std.specs.Prelude.{◌≡◌, ◌+◌, ◌*◌, ◌<◌, ◌≤◌, ◌^◌, [], length, take, nat_lt, Err, IfOk, IfErr};
 ghost use Rattle.std.specs.Str.{chars};
 ghost use Rattle.std.specs.Str.Lossy.{utf8_valid_len};
-ghost use Rattle.qtt_lexer.specs.Place.{start, place_after};
+ghost use Rattle.qtt_lexer.specs.Place.{start};
 ghost use Rattle.qtt_lexer.specs.Forms.{IsText, HasPlaceIn};
 ghost use Rattle.qtt_lexer.specs.Lexed.{Gives, Refuses, seen, kind_of, kept_word, mistake, token, tokens_from, with_front, ReadsPiece, without_mark, lexed};
 
@@ -89,7 +89,8 @@ fn read_piece(
     requires few { length characters.now < 2 ^ 29 }
     requires line { place.line + length characters.now < 2 ^ 32 }
     requires col { place.col + 8 * length characters.now < 2 ^ 32 }
-    ensures ok { IfOk result (ReadsPiece broken place characters.now tokens.old.items tokens.new.items) }
+    ensures ok { IfOk result (ReadsPiece broken place characters.now tokens.old.items
+        tokens.new.items) }
     ensures err { IfErr result (λ e. Refuses e (tokens_from broken place 0 characters.now)) }
 {
     match piece_at(alloc, broken, characters)? {
@@ -134,7 +135,8 @@ fn lex_characters(alloc: Global, broken: bool, characters: &[char]) -> Result<Ve
     read_end(alloc, broken, place, tokens)
 }
 
-// The text before the first byte that is no part of a character, and whether there is such a byte.
+// The text before the first byte that is no part of a character, and whether there is such a
+// byte.
 fn front_text(bytes: &[u8]) -> (&str, bool)
     ensures text { result.0.now ≡ take (utf8_valid_len bytes.now) bytes.now }
     ensures broken { result.1 ≡ nat_lt (utf8_valid_len bytes.now) (length bytes.now) }
@@ -171,7 +173,8 @@ pub fn lex(alloc: Global, bytes: &[u8]) -> Result<Vec<Token>, LexError>
     requires { length bytes.now < 2 ^ 29 }
     // Exactly the tokens, or the first fault.
     ensures exact { Gives result (lexed bytes.now) }
-    // The tokens, with the blanks and comments between them, make up the text; each is the longest that begins there.
+    // The tokens, with the blanks and comments between them, make up the text; each is the
+    // longest that begins there.
     ensures text { IfOk result (λ tokens. IsText bytes.now tokens.items) }
     // A fault has a place in the text or directly behind it.
     ensures place { IfErr result (HasPlaceIn bytes.now) }

@@ -93,7 +93,8 @@ pub fn bad(character: char) -> Piece
 }
 
 fn name(alloc: Global, word: &str) -> Result<Option<Name>, MemoryError>
-    ensures { IfOk result (λ name. name ≡ (if has_long_part word.now then None else Some word.now)) }
+    ensures { IfOk result (λ name. name ≡
+        (if has_long_part word.now then None else Some word.now)) }
 {
     match Name::new(alloc, word) {
         Ok(name) => Ok(Some(name)),

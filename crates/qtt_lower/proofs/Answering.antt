@@ -8,7 +8,8 @@ use denote.Param.Members.{Shared}
 use Rattle.qtt_lower.specs.Answered.{Answered}
 
 module _ {F J X E : Type 0} (g : Shared F (J × Unit {0}) (Result X E)) (f : F) where
-  pub answered-append : (js ks : List J) (xs ys : List X) → Answered g f js xs → Answered g f ks ys → Answered g f (js ++ ks) (xs ++ ys)
+  pub answered-append : (js ks : List J) (xs ys : List X) → Answered g f js xs → Answered g f ks ys →
+      Answered g f (js ++ ks) (xs ++ ys)
   answered-append [] ks [] ys h k = k
   answered-append [] ks (x ∷ xs) ys h k = absurd h
   answered-append (j ∷ js) ks [] ys h k = absurd h
@@ -18,7 +19,8 @@ module _ {F J X E : Type 0} (g : Shared F (J × Unit {0}) (Result X E)) (f : F) 
   value x = Ok x
 
   -- of jobs whose answers are all values
-  pub answered-jobs : (js : List J) (xs : List X) → length xs ≡ length js → GivesJobs g f js (map value xs) → Answered g f js xs
+  pub answered-jobs : (js : List J) (xs : List X) → length xs ≡ length js → GivesJobs g f js (map value xs) →
+      Answered g f js xs
   answered-jobs [] [] e h = tt
   answered-jobs [] (x ∷ xs) e h = absurd (omega arith)
   answered-jobs (j ∷ js) [] e h = absurd (omega arith)
@@ -27,10 +29,12 @@ module _ {F J X E : Type 0} (g : Shared F (J × Unit {0}) (Result X E)) (f : F) 
       (subst (λ k. FnReturns g f (k, tt) (Ok x)) first.job_read first.call, answered-jobs js xs (omega arith) later)
     where
       later : GivesJobs g f js (map value xs)
-      later i d p = let k = (h (suc i) d (omega arith)).1 in (refl, record { job = k.job; job_read = k.job_read; job_is = k.job_is; call = k.call })
+      later i d p = let k = (h (suc i) d (omega arith)).1 in
+          (refl, record { job = k.job; job_read = k.job_read; job_is = k.job_is; call = k.call })
 
   -- where each answer is seen as a value of its own
-  pub answered-map : {Y : Type 0} (v : X → Y) (h : J → Y) → ((j : J) (x : X) → FnReturns g f (j, tt) (Ok x) → v x ≡ h j) →
+  pub answered-map : {Y : Type 0} (v : X → Y) (h : J → Y) →
+      ((j : J) (x : X) → FnReturns g f (j, tt) (Ok x) → v x ≡ h j) →
       (js : List J) (xs : List X) → Answered g f js xs → map v xs ≡ map h js
   answered-map v h s [] [] a = refl
   answered-map v h s [] (x ∷ xs) a = absurd a

@@ -26,7 +26,8 @@ places-extend Γ (Slot.blank ∷ ss) = let h = places-extend (Slot.blank ∷ Γ)
 places-extend Γ (Slot.filled ∷ ss) = let h = places-extend (Slot.filled ∷ Γ) ss in omega (arith, h)
 
 -- ---- no variable is free
-variable-below : (Γ : Slots) (i : ℕ) (s : Slot) → slot_at Γ i ≡ s → Below lean.binders (places Γ) (variable s (place_at Γ i))
+variable-below : (Γ : Slots) (i : ℕ) (s : Slot) → slot_at Γ i ≡ s →
+    Below lean.binders (places Γ) (variable s (place_at Γ i))
 variable-below Γ i Slot.gone h = tt
 variable-below Γ i Slot.blank h = tt
 variable-below Γ i Slot.filled h = place-below Γ i (subst IsFilled (sym h) tt)
@@ -34,14 +35,17 @@ variable-below Γ i Slot.filled h = place-below Γ i (subst IsFilled (sym h) tt)
 mutual
   erase-below : (E : Env) (t : Term) (Γ : Slots) → Below lean.binders (places Γ) (erase E Γ t)
   erase-below E (var i) Γ = variable-below Γ i (slot_at Γ i) refl
-  erase-below E (node F ts) Γ = erases-below E ts (fates E F) (binders F) (lean.binders (operator E F)) Γ (fates-fit E F)
+  erase-below E (node F ts) Γ =
+      erases-below E ts (fates E F) (binders F) (lean.binders (operator E F)) Γ (fates-fit E F)
 
-  erases-below : (E : Env) (ts : Terms) (fs : List Fate) (ns ks : List ℕ) (Γ : Slots) → Fitting ns fs ks → AllBelow lean.binders ks (places Γ) (erases E Γ fs ts)
+  erases-below : (E : Env) (ts : Terms) (fs : List Fate) (ns ks : List ℕ) (Γ : Slots) → Fitting ns fs ks →
+      AllBelow lean.binders ks (places Γ) (erases E Γ fs ts)
   erases-below E ε fs ns ks Γ h = tt
   erases-below E (t ▸ ts) [] ns ks Γ h = tt
   erases-below E (t ▸ ts) (None ∷ fs) ns ks Γ h = erases-below E ts fs (rest ns) ks Γ h
   erases-below E (t ▸ ts) (Some ss ∷ fs) ns ks Γ h = (
-    subst (λ n. Below lean.binders n (erase E (extend Γ ss) t)) (places-extend Γ ss ∙ ap (λ n. n + places Γ) h.1) (erase-below E t (extend Γ ss)),
+    subst (λ n. Below lean.binders n (erase E (extend Γ ss) t)) (places-extend Γ ss ∙ ap (λ n. n + places Γ) h.1)
+        (erase-below E t (extend Γ ss)),
     erases-below E ts fs (rest ns) (rest ks) Γ h.2,
   )
 
@@ -58,7 +62,8 @@ one-left E Γ ss (A ▸ b ▸ ε) a h = tt
 one-left E Γ ss (A ▸ b ▸ c ▸ ts) a h = tt
 
 abbrev HasParts : Env → Slots → Form → Terms → Type 0
-HasParts E Γ F ts = OneBody (operator E F) (erases E Γ (fates E F) ts) × IsPlainOperator (operator E F) (erases E Γ (fates E F) ts)
+HasParts E Γ F ts = OneBody (operator E F) (erases E Γ (fates E F) ts) × IsPlainOperator (operator E F)
+    (erases E Γ (fates E F) ts)
 
 parts-left : (E : Env) (Γ : Slots) (F : Form) (ts : Terms) → IsWholeForm F ts → HasParts E Γ F ts
 parts-left E Γ (Form.lam 𝟘) ts h = (one-left E Γ _ ts lean.Abstraction.thunk h, tt)
@@ -74,7 +79,7 @@ parts-left E Γ (Form.named (Named.def d)) ts h = (tt, nothing-left E Γ ts)
 parts-left E Γ (Form.named (Named.lit l)) ts h = (tt, nothing-left E Γ ts)
 parts-left E Γ (Form.named (Named.prim_ty p)) ts h = (tt, nothing-left E Γ ts)
 parts-left E Γ (Form.named (Named.prim p)) ts h = (tt, tt)
-parts-left E Γ (Form.named (Named.act a)) ts h = (tt, tt)
+parts-left E Γ (Form.named (Named.act a k)) ts h = (tt, tt)
 parts-left E Γ Form.trap ts h = (tt, nothing-left E Γ ts)
 parts-left E Γ (Form.tape n) ts h = absurd h
 parts-left E Γ (Form.sort l) ts h = (tt, nothing-left E Γ ts)
@@ -94,7 +99,8 @@ mutual
       let q = erases-whole E ts (fates E F) Γ h.1 in
       ((p.0, q.0), (p.1, q.1))
 
-  erases-whole : (E : Env) (ts : Terms) (fs : List Fate) (Γ : Slots) → AreWhole E fs ts → AllFormed (erases E Γ fs ts) × ArePlain (erases E Γ fs ts)
+  erases-whole : (E : Env) (ts : Terms) (fs : List Fate) (Γ : Slots) → AreWhole E fs ts →
+      AllFormed (erases E Γ fs ts) × ArePlain (erases E Γ fs ts)
   erases-whole E ε fs Γ h = (tt, tt)
   erases-whole E (t ▸ ts) [] Γ h = (tt, tt)
   erases-whole E (t ▸ ts) (None ∷ fs) Γ h = erases-whole E ts fs Γ h
@@ -111,18 +117,21 @@ abbrev IsErasedSource : Option Lean → Type 0
 IsErasedSource None = Unit {0}
 IsErasedSource (Some t) = IsSource t
 
-body-source : (E : Env) (q : Mult) (o : Option Term) → ((b : Term) → Usable Part.run q → o ≡ Some b → IsWhole E b) → IsErasedSource (erased_body E q o)
+body-source : (E : Env) (q : Mult) (o : Option Term) →
+    ((b : Term) → Usable Part.run q → o ≡ Some b → IsWhole E b) → IsErasedSource (erased_body E q o)
 body-source E 𝟘 o h = tt
 body-source E 𝟙 None h = tt
 body-source E ω None h = tt
 body-source E 𝟙 (Some b) h = erased-source E b (h b tt refl)
 body-source E ω (Some b) h = erased-source E b (h b tt refl)
 
-one-more : (d : GlobalId) (o : Option Lean) (bs : List Body) → IsErasedSource o → AreSources bs → AreSources (with_body d o bs)
+one-more : (d : GlobalId) (o : Option Lean) (bs : List Body) → IsErasedSource o → AreSources bs →
+    AreSources (with_body d o bs)
 one-more d None bs h g = g
 one-more d (Some t) bs h g = (h, g)
 
 pub bodies-are-sources : (E : Env) → HasWholeBodies E → (ds : List GlobalId) → AreSources (bodies E ds)
 bodies-are-sources E h [] = tt
 bodies-are-sources E h (d ∷ ds) =
-    one-more d (erased_bodies E d) (bodies E ds) (body-source E (definition_at E d).mult (definition_at E d).body (h d)) (bodies-are-sources E h ds)
+    one-more d (erased_bodies E d) (bodies E ds)
+    (body-source E (definition_at E d).mult (definition_at E d).body (h d)) (bodies-are-sources E h ds)

@@ -1,4 +1,5 @@
--- Each jump of lowered code goes to a later place: only a branch in front of others has one, and it goes to the end of its Case.
+-- Each jump of lowered code goes to a later place: only a branch in front of others has one, and it goes to the
+-- end of its Case.
 use Rattle.std.proofs.Common.{◌≡◌, ℕ, zero, suc, ◌+◌, ◌-◌, ◌<◌, ◌≤◌, List, [], ◌∷◌, ◌++◌, length, Some, Bool, true, false, cond, ltb, refl, subst, arith, length-append}
 use Rattle.std.specs.List.{slice_get}
 use Rattle.qtt_base.specs.declared.place.GlobalId.{GlobalId}
@@ -17,12 +18,14 @@ abbrev pub ForwardFrom : ℕ → List Instr → Type 0
 ForwardFrom p [] = Unit {0}
 ForwardFrom p (i ∷ is) = ((to : ℕ) → i ≡ Instr.jump to → p < to) × ForwardFrom (suc p) is
 
-forward-at : (p : ℕ) (is : List Instr) → ForwardFrom p is → (k to : ℕ) → slice_get is k ≡ Some (Instr.jump to) → p + k < to
+forward-at : (p : ℕ) (is : List Instr) → ForwardFrom p is → (k to : ℕ) → slice_get is k ≡ Some (Instr.jump to) →
+    p + k < to
 forward-at p [] f k to h = absurd (cc h)
 forward-at p (i ∷ is) f zero to h = let l : p < to = f.0 to (cc h) in omega (arith, l)
 forward-at p (i ∷ is) f (suc k) to h = let l : suc p + k < to = forward-at (suc p) is f.1 k to h in omega (arith, l)
 
-forward-append : (p : ℕ) (xs ys : List Instr) (q : ℕ) → q ≡ p + length xs → ForwardFrom p xs → ForwardFrom q ys → ForwardFrom p (xs ++ ys)
+forward-append : (p : ℕ) (xs ys : List Instr) (q : ℕ) → q ≡ p + length xs → ForwardFrom p xs → ForwardFrom q ys →
+    ForwardFrom p (xs ++ ys)
 forward-append p [] ys q e f g = subst (λ r. ForwardFrom r ys) (let h : q ≡ p = omega (arith, e) in h) g
 forward-append p (x ∷ xs) ys q e f g = (f.0, forward-append (suc p) xs ys q (omega (arith, e)) f.1 g)
 
@@ -41,7 +44,8 @@ chosen-no-jump : (b : Bool) (i j : Instr) → NoJump i → NoJump j → NoJump (
 chosen-no-jump true i j m n = m
 chosen-no-jump false i j m n = n
 
-own-forward : (e : GlobalId → ℕ) (o : Position) (p : ℕ) (F : Operator Closure) (n : ℕ) (qs : List ℕ) → ForwardFrom p (own e o F n qs)
+own-forward : (e : GlobalId → ℕ) (o : Position) (p : ℕ) (F : Operator Closure) (n : ℕ) (qs : List ℕ) →
+    ForwardFrom p (own e o F n qs)
 own-forward e o p (Operator.function f) n qs = given-forward o p _ (λ to h. cc h)
 own-forward e o p Operator.app n qs = one-forward p _ (λ to h. cc h)
 own-forward e o p Operator.force n qs = one-forward p _ (λ to h. cc h)
@@ -60,9 +64,11 @@ jumps-forward : (p : ℕ) (ns : List ℕ) (end : ℕ) → p + length (jumps ns 0
 jumps-forward p [] end h = tt
 jumps-forward p (n ∷ ns) end h = (λ to e. let k : end ≡ to = cc e in omega (arith, h, k), tt)
 
-joins-forward : (o : Position) (p n : ℕ) (ns : List ℕ) (end : ℕ) → p + join_width o n ns ≤ end → ForwardFrom p (joins o n ns end)
+joins-forward : (o : Position) (p n : ℕ) (ns : List ℕ) (end : ℕ) → p + join_width o n ns ≤ end →
+    ForwardFrom p (joins o n ns end)
 joins-forward Position.inner p zero ns end h = jumps-forward p ns end h
-joins-forward Position.inner p (suc n) ns end h = (λ to e. absurd (cc e), jumps-forward (suc p) ns end (omega (arith, h)))
+joins-forward Position.inner p (suc n) ns end h =
+    (λ to e. absurd (cc e), jumps-forward (suc p) ns end (omega (arith, h)))
 joins-forward Position.tail p n ns end h = tt
 
 -- ---- terms
@@ -88,7 +94,8 @@ module _ (e : GlobalId → ℕ) (c : ℕ) where
     operands-forward d p k ∅ = tt
     operands-forward d p zero (t ◂ ts) =
         let l = code-length e c Position.inner d p t in
-        forward-append p (code e c Position.inner d p t) (operands e c d (p + width Position.inner t) zero ts) (p + width Position.inner t) (omega (arith, l))
+        forward-append p (code e c Position.inner d p t) (operands e c d (p + width Position.inner t) zero ts)
+        (p + width Position.inner t) (omega (arith, l))
         (code-forward Position.inner d p t) (operands-forward d (p + width Position.inner t) zero ts)
     operands-forward d p (suc k) (t ◂ ts) = operands-forward d p k ts
 
@@ -113,7 +120,8 @@ blocks-forward : (e : GlobalId → ℕ) (d : GlobalId) (Fs : List Function) → 
 blocks-forward e d [] b B h = absurd (cc h)
 blocks-forward e d (F ∷ Fs) zero B h =
     subst (λ C. JumpsForward C.code) (let k : block e d F ≡ B = cc h in k)
-    (λ place to g. let l = forward-at 0 (block e d F).code (code-forward e F.captured Position.tail (F.captured + F.takes) 0 F.body) place to g in omega (arith, l))
+    (λ place to g. let l = forward-at 0 (block e d F).code
+    (code-forward e F.captured Position.tail (F.captured + F.takes) 0 F.body) place to g in omega (arith, l))
 blocks-forward e d (F ∷ Fs) (suc b) B h = blocks-forward e d Fs b B h
 
 programs-append : (P Q : Program) → AllJumpForward P → AllJumpForward Q → AllJumpForward (P ++ Q)
@@ -124,7 +132,8 @@ programs-append (B ∷ P) Q f g (suc b) C h = programs-append P Q (λ k D m. f (
 program-forward : (e : GlobalId → ℕ) (n : ℕ) (bs : List Body) → AllJumpForward (program_from e n bs)
 program-forward e n [] b B h = absurd (cc h)
 program-forward e n (d ∷ bs) b B h =
-    programs-append (lowered e n d) (program_from e (numbers_end n d.term) bs) (blocks-forward e d.id (conversion n d.term))
+    programs-append (lowered e n d) (program_from e (numbers_end n d.term) bs)
+    (blocks-forward e d.id (conversion n d.term))
     (program-forward e (numbers_end n d.term) bs) b B h
 
 pub jumps-go-forward : (bs : List Body) → AllJumpForward (program bs)

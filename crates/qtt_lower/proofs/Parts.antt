@@ -14,7 +14,8 @@ pub stands-left : (is : List Instr) (p : ℕ) (xs ys : List Instr) → Stands is
 stands-left is p [] ys h = tt
 stands-left is p (x ∷ xs) ys h = (h.0, stands-left is (suc p) xs ys h.1)
 
-pub stands-right : (is : List Instr) (p : ℕ) (xs ys : List Instr) (q : ℕ) → q ≡ p + length xs → Stands is p (xs ++ ys) → Stands is q ys
+pub stands-right : (is : List Instr) (p : ℕ) (xs ys : List Instr) (q : ℕ) → q ≡ p + length xs →
+    Stands is p (xs ++ ys) → Stands is q ys
 stands-right is p [] ys q e h = subst (λ r. Stands is r ys) (let f : p ≡ q = omega (arith, e) in f) h
 stands-right is p (x ∷ xs) ys q e h = stands-right is (suc p) xs ys q (omega (arith, e)) h.1
 
@@ -32,7 +33,8 @@ given-length : (o : Position) (i : Instr) → length (given o i) ≡ given_width
 given-length Position.inner i = refl
 given-length Position.tail i = refl
 
-pub own-length : (e : GlobalId → ℕ) (o : Position) (F : Operator Closure) (n : ℕ) (qs : List ℕ) → length (own e o F n qs) ≡ own_width o F
+pub own-length : (e : GlobalId → ℕ) (o : Position) (F : Operator Closure) (n : ℕ) (qs : List ℕ) →
+    length (own e o F n qs) ≡ own_width o F
 own-length e o (Operator.function f) n qs = given-length o _
 own-length e o Operator.app n qs = refl
 own-length e o Operator.force n qs = refl
@@ -65,8 +67,11 @@ module _ (e : GlobalId → ℕ) (c : ℕ) where
     code-length o d p (Tree.node F ts) =
         let q : ℕ = branches_from o p F ts in
         let r : ℕ = p + width o (Tree.node F ts) in
-        three-length (operands e c d p (branch_count F) ts) (own e o F (size ts) (branch_places o q (branches F) ts)) (branch_codes e c o d q r (branches F) ts)
-        ∙ ap₂ ◌+◌ (ap₂ ◌+◌ (operands-length d p (branch_count F) ts) (own-length e o F (size ts) (branch_places o q (branches F) ts))) (branches-length o d q r (branches F) ts)
+        three-length (operands e c d p (branch_count F) ts)
+        (own e o F (size ts) (branch_places o q (branches F) ts)) (branch_codes e c o d q r (branches F) ts)
+        ∙ ap₂ ◌+◌ (ap₂ ◌+◌ (operands-length d p (branch_count F) ts)
+        (own-length e o F (size ts) (branch_places o q (branches F) ts)))
+        (branches-length o d q r (branches F) ts)
 
     pub operands-length : (d p k : ℕ) (ts : FlatTerms) → length (operands e c d p k ts) ≡ widths k ts
     operands-length d p k ∅ = refl
@@ -75,12 +80,15 @@ module _ (e : GlobalId → ℕ) (c : ℕ) where
         ∙ ap₂ ◌+◌ (code-length Position.inner d p t) (operands-length d (p + width Position.inner t) zero ts)
     operands-length d p (suc k) (t ◂ ts) = operands-length d p k ts
 
-    pub branches-length : (o : Position) (d p end : ℕ) (ns : List ℕ) (ts : FlatTerms) → length (branch_codes e c o d p end ns ts) ≡ branch_widths o ns ts
+    pub branches-length : (o : Position) (d p end : ℕ) (ns : List ℕ) (ts : FlatTerms) →
+        length (branch_codes e c o d p end ns ts) ≡ branch_widths o ns ts
     branches-length o d p end [] ts = refl
     branches-length o d p end (n ∷ ns) ∅ = refl
     branches-length o d p end (n ∷ ns) (t ◂ ts) =
-        three-length (code e c o (n + d) p t) (joins o n ns end) (branch_codes e c o d (p + width o t + join_width o n ns) end ns ts)
-        ∙ ap₂ ◌+◌ (ap₂ ◌+◌ (code-length o (n + d) p t) (joins-length o n ns end)) (branches-length o d (p + width o t + join_width o n ns) end ns ts)
+        three-length (code e c o (n + d) p t) (joins o n ns end)
+        (branch_codes e c o d (p + width o t + join_width o n ns) end ns ts)
+        ∙ ap₂ ◌+◌ (ap₂ ◌+◌ (code-length o (n + d) p t) (joins-length o n ns end))
+        (branches-length o d (p + width o t + join_width o n ns) end ns ts)
 
 -- ---- components behind the first k
 abbrev pub lasts : ℕ → FlatTerms → FlatTerms
@@ -93,7 +101,8 @@ lasts-widths zero ts = refl
 lasts-widths (suc k) ∅ = refl
 lasts-widths (suc k) (t ◂ ts) = lasts-widths k ts
 
-lasts-operands : (e : GlobalId → ℕ) (c d p k : ℕ) (ts : FlatTerms) → operands e c d p k ts ≡ operands e c d p 0 (lasts k ts)
+lasts-operands : (e : GlobalId → ℕ) (c d p k : ℕ) (ts : FlatTerms) →
+    operands e c d p k ts ≡ operands e c d p 0 (lasts k ts)
 lasts-operands e c d p zero ts = refl
 lasts-operands e c d p (suc k) ∅ = refl
 lasts-operands e c d p (suc k) (t ◂ ts) = lasts-operands e c d p k ts
@@ -103,15 +112,18 @@ pub code-parts : (e : GlobalId → ℕ) (c : ℕ) (o : Position) (d p : ℕ) (F 
     code e c o d p (Tree.node F ts)
     ≡ operands e c d p 0 (lasts (branch_count F) ts)
     ++ own e o F (size ts) (branch_places o (rest_from o p F (lasts (branch_count F) ts)) (branches F) ts)
-    ++ branch_codes e c o d (rest_from o p F (lasts (branch_count F) ts)) (rest_end o p F ts (lasts (branch_count F) ts)) (branches F) ts
+    ++ branch_codes e c o d (rest_from o p F (lasts (branch_count F) ts))
+    (rest_end o p F ts (lasts (branch_count F) ts)) (branches F) ts
 code-parts e c o d p F ts =
     let w = lasts-widths (branch_count F) ts in
     let q : branches_from o p F ts ≡ rest_from o p F (lasts (branch_count F) ts) = ap (λ n. p + n + own_width o F) w in
     let r : p + width o (Tree.node F ts) ≡ rest_end o p F ts (lasts (branch_count F) ts) = omega (arith, w) in
-    ap₂ ◌++◌ (ap₂ ◌++◌ (lasts-operands e c d p (branch_count F) ts) (ap (λ x. own e o F (size ts) (branch_places o x (branches F) ts)) q))
+    ap₂ ◌++◌ (ap₂ ◌++◌ (lasts-operands e c d p (branch_count F) ts)
+    (ap (λ x. own e o F (size ts) (branch_places o x (branches F) ts)) q))
     (ap₂ (λ x y. branch_codes e c o d x y (branches F) ts) q r)
 
-pub parts-end : (o : Position) (p : ℕ) (F : Operator Closure) (ts : FlatTerms) → p + width o (Tree.node F ts) ≡ rest_end o p F ts (lasts (branch_count F) ts)
+pub parts-end : (o : Position) (p : ℕ) (F : Operator Closure) (ts : FlatTerms) →
+    p + width o (Tree.node F ts) ≡ rest_end o p F ts (lasts (branch_count F) ts)
 parts-end o p F ts = let w = lasts-widths (branch_count F) ts in omega (arith, w)
 
 -- ---- filled components: the branches, then the others

@@ -33,7 +33,8 @@ behind_all-stuck : (ts : FlatTerms) → behind_all ts Outcome.stuck ≡ Outcome.
 behind_all-stuck ∅ = refl
 behind_all-stuck (t ◂ ts) = ap (behind t) (behind_all-stuck ts)
 
-behind_all-append : (ts us : FlatTerms) (r : Outcome FlatTerms) → behind_all (ts ◂◂ us) r ≡ behind_all ts (behind_all us r)
+behind_all-append : (ts us : FlatTerms) (r : Outcome FlatTerms) →
+    behind_all (ts ◂◂ us) r ≡ behind_all ts (behind_all us r)
 behind_all-append ∅ us r = refl
 behind_all-append (t ◂ ts) us r = ap (behind t) (behind_all-append ts us r)
 
@@ -64,7 +65,8 @@ module _ (P : Program) (D : Bodies Closure) where
   waiting-count Operator.ty h = absurd h
   waiting-count (Operator.tape n) h = absurd h
 
-  nexts-waiting : (bs ts : FlatTerms) → nexts (closures P) D (size bs) (bs ◂◂ ts) ≡ behind_all bs (nexts (closures P) D 0 ts)
+  nexts-waiting : (bs ts : FlatTerms) →
+      nexts (closures P) D (size bs) (bs ◂◂ ts) ≡ behind_all bs (nexts (closures P) D 0 ts)
   nexts-waiting ∅ ts = refl
   nexts-waiting (b ◂ bs) ts = ap (behind b) (nexts-waiting bs ts)
 
@@ -72,12 +74,14 @@ module _ (P : Program) (D : Bodies Closure) where
       nexts (closures P) D 0 (flat_values vs ◂◂ ts) ≡ behind_all (flat_values vs) (nexts (closures P) D 0 ts)
   nexts-values Values.none ts = refl
   nexts-values (v ▹ vs) ts =
-      ap (λ o. before o (flat_value v) (flat_values vs ◂◂ ts) (nexts (closures P) D 0 (flat_values vs ◂◂ ts))) (value-stays P D v)
+      ap (λ o. before o (flat_value v) (flat_values vs ◂◂ ts) (nexts (closures P) D 0 (flat_values vs ◂◂ ts)))
+      (value-stays P D v)
       ∙ ap (behind (flat_value v)) (nexts-values vs ts)
 
   -- an operator goes on with the components behind its values
   pub next-is : (p : Pending) → IsPending p → (ts : FlatTerms) →
-      flat_step P D (Tree.node p.operator (p.before ◂◂ ts)) ≡ finish (closures P) D p.operator (p.before ◂◂ ts) (behind_all p.before (nexts (closures P) D 0 ts))
+      flat_step P D (Tree.node p.operator (p.before ◂◂ ts)) ≡ finish (closures P) D p.operator (p.before ◂◂ ts)
+      (behind_all p.before (nexts (closures P) D 0 ts))
   next-is p i ts =
       let B : FlatTerms = i.branches ◂◂ flat_values i.values in
       ap (finish (closures P) D p.operator (p.before ◂◂ ts))
@@ -90,40 +94,48 @@ module _ (P : Program) (D : Bodies Closure) where
       ∙ ap (λ us. behind_all us (nexts (closures P) D 0 ts)) (sym i.before))
 
   -- with all components done it acts itself
-  pub acts-itself : (p : Pending) → IsPending p → flat_step P D (Tree.node p.operator (p.before ◂◂ ∅)) ≡ itself (closures P) D p.operator (p.before ◂◂ ∅)
+  pub acts-itself : (p : Pending) → IsPending p →
+      flat_step P D (Tree.node p.operator (p.before ◂◂ ∅)) ≡ itself (closures P) D p.operator (p.before ◂◂ ∅)
   acts-itself p i = next-is p i ∅ ∙ ap (finish (closures P) D p.operator (p.before ◂◂ ∅)) (behind_all-values p.before)
 
   -- ---- a component's step, trap or being stuck is that of the whole
   pub steps-inside : (p : Pending) → IsPending p → (t u : FlatTerm) → flat_step P D t ≡ Outcome.step u →
-      flat_step P D (Tree.node p.operator (p.before ◂◂ t ◂ p.behind)) ≡ Outcome.step (Tree.node p.operator (p.before ◂◂ u ◂ p.behind))
+      flat_step P D (Tree.node p.operator (p.before ◂◂ t ◂ p.behind)) ≡ Outcome.step
+      (Tree.node p.operator (p.before ◂◂ u ◂ p.behind))
   steps-inside p i t u e =
       next-is p i (t ◂ p.behind)
-      ∙ ap (λ o. finish (closures P) D p.operator (p.before ◂◂ t ◂ p.behind) (behind_all p.before (before o t p.behind (nexts (closures P) D 0 p.behind)))) e
+      ∙ ap (λ o. finish (closures P) D p.operator (p.before ◂◂ t ◂ p.behind)
+      (behind_all p.before (before o t p.behind (nexts (closures P) D 0 p.behind)))) e
       ∙ ap (finish (closures P) D p.operator (p.before ◂◂ t ◂ p.behind)) (behind_all-step p.before (u ◂ p.behind))
 
   pub traps-inside : (p : Pending) → IsPending p → (t : FlatTerm) (k : _) → flat_step P D t ≡ Outcome.trap k →
       flat_step P D (Tree.node p.operator (p.before ◂◂ t ◂ p.behind)) ≡ Outcome.trap k
   traps-inside p i t k e =
       next-is p i (t ◂ p.behind)
-      ∙ ap (λ o. finish (closures P) D p.operator (p.before ◂◂ t ◂ p.behind) (behind_all p.before (before o t p.behind (nexts (closures P) D 0 p.behind)))) e
+      ∙ ap (λ o. finish (closures P) D p.operator (p.before ◂◂ t ◂ p.behind)
+      (behind_all p.before (before o t p.behind (nexts (closures P) D 0 p.behind)))) e
       ∙ ap (finish (closures P) D p.operator (p.before ◂◂ t ◂ p.behind)) (behind_all-trap p.before k)
 
   pub stuck-inside : (p : Pending) → IsPending p → (t : FlatTerm) → flat_step P D t ≡ Outcome.stuck →
       flat_step P D (Tree.node p.operator (p.before ◂◂ t ◂ p.behind)) ≡ Outcome.stuck
   stuck-inside p i t e =
       next-is p i (t ◂ p.behind)
-      ∙ ap (λ o. finish (closures P) D p.operator (p.before ◂◂ t ◂ p.behind) (behind_all p.before (before o t p.behind (nexts (closures P) D 0 p.behind)))) e
+      ∙ ap (λ o. finish (closures P) D p.operator (p.before ◂◂ t ◂ p.behind)
+      (behind_all p.before (before o t p.behind (nexts (closures P) D 0 p.behind)))) e
       ∙ ap (finish (closures P) D p.operator (p.before ◂◂ t ◂ p.behind)) (behind_all-stuck p.before)
 
-  pub plug-steps : (ps : List Pending) → ArePending ps → (t u : FlatTerm) → flat_step P D t ≡ Outcome.step u → flat_step P D (plug ps t) ≡ Outcome.step (plug ps u)
+  pub plug-steps : (ps : List Pending) → ArePending ps → (t u : FlatTerm) → flat_step P D t ≡ Outcome.step u →
+      flat_step P D (plug ps t) ≡ Outcome.step (plug ps u)
   plug-steps [] h t u e = e
   plug-steps (p ∷ ps) h t u e = plug-steps ps h.1 _ _ (steps-inside p h.0 t u e)
 
-  pub plug-traps : (ps : List Pending) → ArePending ps → (t : FlatTerm) (k : _) → flat_step P D t ≡ Outcome.trap k → flat_step P D (plug ps t) ≡ Outcome.trap k
+  pub plug-traps : (ps : List Pending) → ArePending ps →
+      (t : FlatTerm) (k : _) → flat_step P D t ≡ Outcome.trap k → flat_step P D (plug ps t) ≡ Outcome.trap k
   plug-traps [] h t k e = e
   plug-traps (p ∷ ps) h t k e = plug-traps ps h.1 _ k (traps-inside p h.0 t k e)
 
-  pub plug-stuck : (ps : List Pending) → ArePending ps → (t : FlatTerm) → flat_step P D t ≡ Outcome.stuck → flat_step P D (plug ps t) ≡ Outcome.stuck
+  pub plug-stuck : (ps : List Pending) → ArePending ps → (t : FlatTerm) → flat_step P D t ≡ Outcome.stuck →
+      flat_step P D (plug ps t) ≡ Outcome.stuck
   plug-stuck [] h t e = e
   plug-stuck (p ∷ ps) h t e = plug-stuck ps h.1 _ (stuck-inside p h.0 t e)
 
@@ -134,13 +146,15 @@ firsts-size (suc k) ∅ h = absurd (omega (arith, h))
 firsts-size (suc k) (t ◂ ts) h = ap suc (firsts-size k ts (omega (arith, h)))
 
 module _ (e : _) where
-  pub front-size : (f : Frame) (o : Position) (F : Operator Closure) (ts : FlatTerms) (vs : Values) (k : ℕ) (us : FlatTerms) (below : List Value) →
+  pub front-size : (f : Frame) (o : Position) (F : Operator Closure) (ts : FlatTerms) (vs : Values) (k : ℕ)
+      (us : FlatTerms) (below : List Value) →
       IsComputing e f o F ts vs k us below → size (front f F ts) ≡ branch_count F
   front-size f o F ts vs k us below i =
       subs-size binders (firsts (branch_count F) ts) (branches F) (filling f)
       ∙ firsts-size (branch_count F) ts (let c = i.counted in omega (arith, c))
 
-  pub is-pending : (f : Frame) (o : Position) (F : Operator Closure) (ts : FlatTerms) (vs : Values) (k : ℕ) (us ws : FlatTerms) (below : List Value) →
+  pub is-pending : (f : Frame) (o : Position) (F : Operator Closure) (ts : FlatTerms) (vs : Values) (k : ℕ)
+      (us ws : FlatTerms) (below : List Value) →
       IsComputing e f o F ts vs k us below → IsPending (pending f F ts vs ws)
   is-pending f o F ts vs k us ws below i = record {
     branches = front f F ts;
@@ -159,8 +173,10 @@ module _ (e : _) where
     continues-pending (Continues.returns n p w) = waits-pending w
     continues-pending (Continues.jumps q n c) = continues-pending c
     continues-pending (Continues.leaves kept dropped n l c) = continues-pending c
-    continues-pending (Continues.component {f = f} o F ts vs us below i x) = (is-pending f o F ts vs 1 us us below i, ends-pending x)
+    continues-pending (Continues.component {f = f} o F ts vs us below i x) =
+        (is-pending f o F ts vs 1 us us below i, ends-pending x)
 
-    pub ends-pending : {o : Position} {f : Frame} {fs : List Frame} {ps : List Pending} → Ends e o f fs ps → ArePending ps
+    pub ends-pending : {o : Position} {f : Frame} {fs : List Frame} {ps : List Pending} → Ends e o f fs ps →
+        ArePending ps
     ends-pending (Ends.goes_on c) = continues-pending c
     ends-pending (Ends.gives_back p w) = waits-pending w

@@ -6,7 +6,8 @@ use Rattle.qtt_base.specs.declared.place.GlobalId.{GlobalId}
 use Rattle.qtt_term.specs.Signature.{Definition, Env, definition_of}
 use Rattle.qtt_erase.specs.Erasure.{erased_body, erased_bodies}
 
-pub body_found : (E : Env) (d : GlobalId) (D : Definition) → Some D ≡ E.definition d → erased_bodies E d ≡ erased_body E D.mult D.body
+pub body_found : (E : Env) (d : GlobalId) (D : Definition) → Some D ≡ E.definition d →
+    erased_bodies E d ≡ erased_body E D.mult D.body
 body_found E d D e = ap (λ o. erased_body E (definition_of o).mult (definition_of o).body) (sym e)
 
 pub body_absent : (E : Env) (d : GlobalId) → None ≡ E.definition d → erased_bodies E d ≡ None
@@ -28,11 +29,13 @@ one_more_mapped f g xs k d h =
     next_mapped f g xs k d h ∙ ap (λ n. g (f (get_or xs k d)) ∷ map g (map f (drop n xs))) e
 
 -- one more is made of the elements, each in two steps
-pub one_more_made : {A X Y Z : Type 0} (v : A → Z) (f : X → Y) (g : Y → Z) (made more : List A) (a : A) (xs : List X) (k : ℕ) (d : X) → k < length xs →
+pub one_more_made : {A X Y Z : Type 0} (v : A → Z) (f : X → Y) (g : Y → Z) (made more : List A) (a : A)
+    (xs : List X) (k : ℕ) (d : X) → k < length xs →
     more ≡ made ++ a ∷ [] → v a ≡ g (f (get_or xs k d)) → map v made ++ map g (map f (drop k xs)) ≡ map g (map f xs) →
     map v more ++ map g (map f (drop (k + 1) xs)) ≡ map g (map f xs)
 one_more_made v f g made more a xs k d h e s all =
-    ap (λ m. map v m ++ map g (map f (drop (k + 1) xs))) e ∙ ap (λ m. m ++ map g (map f (drop (k + 1) xs))) (map-append v made (a ∷ []))
+    ap (λ m. map v m ++ map g (map f (drop (k + 1) xs))) e ∙ ap (λ m. m ++ map g (map f (drop (k + 1) xs)))
+    (map-append v made (a ∷ []))
     ∙ append_assoc (map v made) (v a ∷ []) (map g (map f (drop (k + 1) xs)))
     ∙ ap (λ z. map v made ++ z ∷ map g (map f (drop (k + 1) xs))) s
     ∙ ap (λ m. map v made ++ m) (sym (one_more_mapped f g xs k d h)) ∙ all

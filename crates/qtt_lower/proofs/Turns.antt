@@ -40,9 +40,11 @@ cases limit n = grind arith
 
 one-more : (limit a b c : ℕ) → IsCapped limit b c → IsCapped limit (a + b) (capped limit a + c)
 one-more limit a b c (inr h) = inr (omega arith, omega arith)
-one-more limit a b c (inl h) = elim (cases limit (a + b)) [ inl p ↦ inl (p, omega arith) | inr p ↦ inr (p, omega arith) ]
+one-more limit a b c (inl h) =
+    elim (cases limit (a + b)) [ inl p ↦ inl (p, omega arith) | inr p ↦ inr (p, omega arith) ]
 
-capped-sum : (limit : ℕ) (f : GlobalId → ℕ) (ds : List GlobalId) → IsCapped limit (counts f ds) (capped_counts limit f ds)
+capped-sum : (limit : ℕ) (f : GlobalId → ℕ) (ds : List GlobalId) →
+    IsCapped limit (counts f ds) (capped_counts limit f ds)
 capped-sum limit f [] = inl (omega arith, refl)
 capped-sum limit f (d ∷ ds) = one-more limit (f d) (counts f ds) (capped_counts limit f ds) (capped-sum limit f ds)
 
@@ -57,40 +59,53 @@ small : (limit a rest : ℕ) → capped limit a + rest ≤ limit → capped limi
 small limit a rest h = omega arith
 
 module _ (E : Env) where
-  sized-blocks : (ds : List GlobalId) → total_blocks (map (sized E) ds) ≡ capped_counts standard.blocks (λ d. block_count (erased_bodies E d)) ds
+  sized-blocks : (ds : List GlobalId) →
+      total_blocks (map (sized E) ds) ≡ capped_counts standard.blocks (λ d. block_count (erased_bodies E d)) ds
   sized-blocks [] = refl
   sized-blocks (d ∷ ds) = ap (λ n. capped standard.blocks (block_count (erased_bodies E d)) + n) (sized-blocks ds)
 
   sized-instructions : (ds : List GlobalId) →
-      total_instructions (map (sized E) ds) ≡ capped_counts standard.instructions (λ d. instruction_count (erased_bodies E d)) ds
+      total_instructions (map (sized E) ds) ≡ capped_counts standard.instructions
+      (λ d. instruction_count (erased_bodies E d)) ds
   sized-instructions [] = refl
-  sized-instructions (d ∷ ds) = ap (λ n. capped standard.instructions (instruction_count (erased_bodies E d)) + n) (sized-instructions ds)
+  sized-instructions (d ∷ ds) =
+      ap (λ n. capped standard.instructions (instruction_count (erased_bodies E d)) + n) (sized-instructions ds)
 
-  body-blocks : (ds : List GlobalId) → sum_by body_blocks (bodies E ds) ≡ counts (λ d. block_count (erased_bodies E d)) ds
+  body-blocks : (ds : List GlobalId) →
+      sum_by body_blocks (bodies E ds) ≡ counts (λ d. block_count (erased_bodies E d)) ds
   body-blocks [] = refl
   body-blocks (d ∷ ds) = by_body (erased_bodies E d) ∙ ap (λ n. block_count (erased_bodies E d) + n) (body-blocks ds)
     where
-      by_body : (o : Option Lean) → sum_by body_blocks (with_body d o (bodies E ds)) ≡ block_count o + sum_by body_blocks (bodies E ds)
+      by_body : (o : Option Lean) →
+          sum_by body_blocks (with_body d o (bodies E ds)) ≡ block_count o + sum_by body_blocks (bodies E ds)
       by_body None = omega arith
       by_body (Some t) = sum_by-cons body_blocks (record { id = d; term = t }) (bodies E ds)
 
-  body-instructions : (ds : List GlobalId) → sum_by body_instructions (bodies E ds) ≡ counts (λ d. instruction_count (erased_bodies E d)) ds
+  body-instructions : (ds : List GlobalId) →
+      sum_by body_instructions (bodies E ds) ≡ counts (λ d. instruction_count (erased_bodies E d)) ds
   body-instructions [] = refl
-  body-instructions (d ∷ ds) = by_body (erased_bodies E d) ∙ ap (λ n. instruction_count (erased_bodies E d) + n) (body-instructions ds)
+  body-instructions (d ∷ ds) =
+      by_body (erased_bodies E d) ∙ ap (λ n. instruction_count (erased_bodies E d) + n) (body-instructions ds)
     where
-      by_body : (o : Option Lean) → sum_by body_instructions (with_body d o (bodies E ds)) ≡ instruction_count o + sum_by body_instructions (bodies E ds)
+      by_body : (o : Option Lean) →
+          sum_by body_instructions (with_body d o (bodies E ds)) ≡ instruction_count o + sum_by body_instructions
+          (bodies E ds)
       by_body None = omega arith
       by_body (Some t) = sum_by-cons body_instructions (record { id = d; term = t }) (bodies E ds)
 
   -- the capped sizes pass the limits that the program passes
   same_excess : (ds : List GlobalId) →
-      excess (total_blocks (map (sized E) ds)) (total_instructions (map (sized E) ds)) ≡ excess (sum_by body_blocks (bodies E ds)) (sum_by body_instructions (bodies E ds))
+      excess (total_blocks (map (sized E) ds)) (total_instructions (map (sized E) ds)) ≡ excess
+      (sum_by body_blocks (bodies E ds)) (sum_by body_instructions (bodies E ds))
   same_excess ds =
-      let p = ap (nat_lt standard.blocks) (sized-blocks ds) ∙ same-test standard.blocks _ _ (capped-sum standard.blocks (λ d. block_count (erased_bodies E d)) ds)
+      let p = ap (nat_lt standard.blocks) (sized-blocks ds) ∙ same-test standard.blocks _ _
+      (capped-sum standard.blocks (λ d. block_count (erased_bodies E d)) ds)
       ∙ ap (nat_lt standard.blocks) (sym (body-blocks ds)) in
-      let q = ap (nat_lt standard.instructions) (sized-instructions ds) ∙ same-test standard.instructions _ _ (capped-sum standard.instructions (λ d. instruction_count (erased_bodies E d)) ds)
+      let q = ap (nat_lt standard.instructions) (sized-instructions ds) ∙ same-test standard.instructions _ _
+      (capped-sum standard.instructions (λ d. instruction_count (erased_bodies E d)) ds)
       ∙ ap (nat_lt standard.instructions) (sym (body-instructions ds)) in
-      ap₂ (λ x y. cond x (Some (Limit Blocks (standard.blocks + 1))) (cond y (Some (Limit Instructions (standard.instructions + 1))) None)) p q
+      ap₂ (λ x y. cond x (Some (Limit Blocks (standard.blocks + 1)))
+      (cond y (Some (Limit Instructions (standard.instructions + 1))) None)) p q
 
   -- ---- first blocks
   pub same_firsts : (ds : List GlobalId) (n : ℕ) → total_blocks (map (sized E) ds) ≤ standard.blocks →
@@ -101,14 +116,18 @@ module _ (E : Env) where
       put : ℕ → List (GlobalId × ℕ)
       put s = cond (eqb s 0) (firsts_from n (map (sized E) ds)) ((d, n) ∷ firsts_from (n + s) (map (sized E) ds))
 
-      by_body : ((m : ℕ) → base_list (firsts_from m (map (sized E) ds)) ≡ bases_from m (bodies E ds)) → (o : Option Lean) → erased_bodies E d ≡ o →
-          base_list (put (capped standard.blocks (block_count (erased_bodies E d)))) ≡ bases_from n (with_body d o (bodies E ds))
+      by_body : ((m : ℕ) → base_list (firsts_from m (map (sized E) ds)) ≡ bases_from m (bodies E ds)) →
+          (o : Option Lean) → erased_bodies E d ≡ o →
+          base_list (put (capped standard.blocks (block_count (erased_bodies E d)))) ≡ bases_from n
+          (with_body d o (bodies E ds))
       by_body later None e = ap (λ o. base_list (put (capped standard.blocks (block_count o)))) e ∙ later n
       by_body later (Some t) e =
           let few : capped standard.blocks (block_count (erased_bodies E d)) ≡ length (conversion 0 t) =
-          small standard.blocks (block_count (erased_bodies E d)) (total_blocks (map (sized E) ds)) h ∙ ap block_count e in
+          small standard.blocks (block_count (erased_bodies E d)) (total_blocks (map (sized E) ds)) h ∙
+          ap block_count e in
           ap (λ s. base_list (put s)) few
-          ∙ ap (λ b. base_list (cond b (firsts_from n (map (sized E) ds)) ((d, n) ∷ firsts_from (n + length (conversion 0 t)) (map (sized E) ds))))
+          ∙ ap (λ b. base_list (cond b (firsts_from n (map (sized E) ds))
+          ((d, n) ∷ firsts_from (n + length (conversion 0 t)) (map (sized E) ds))))
           (ne_eqb (length (conversion 0 t)) 0 (λ z. omega arith))
           ∙ ap (λ bs. record { id = d; block = n } ∷ bs)
           (later (n + length (conversion 0 t)) ∙ ap (λ m. bases_from m (bodies E ds)) (sym (numbers-taken n t)))
@@ -124,14 +143,16 @@ agree-itself f [] = tt
 agree-itself f (d ∷ ds) = (refl, agree-itself f ds)
 
 -- at definitions that the first base is not of
-agree-behind : (f : GlobalId → ℕ) (b : Base) (bs : List Base) (ds : List GlobalId) → list_all (λ d. not (same_id b.id d)) ds ≡ true →
+agree-behind : (f : GlobalId → ℕ) (b : Base) (bs : List Base) (ds : List GlobalId) →
+    list_all (λ d. not (same_id b.id d)) ds ≡ true →
     Agree f (entry (b ∷ bs)) ds → Agree f (entry bs) ds
 agree-behind f b bs [] u a = tt
 agree-behind f b bs (d ∷ ds) u a =
     let p = and_parts (not (same_id b.id d)) (list_all (λ d. not (same_id b.id d)) ds) u in
     (a.0 ∙ ap block_of (found_behind base_id d b bs (not_true (same_id b.id d) p.0)), agree-behind f b bs ds p.1 a.1)
 
-in-turn : (E : Env) (bs : List Base) (ds : List GlobalId) (n : ℕ) → ids_differ ds ≡ true → Agree (entry bs) (entry (bases_from n (bodies E ds))) ds →
+in-turn : (E : Env) (bs : List Base) (ds : List GlobalId) (n : ℕ) → ids_differ ds ≡ true →
+    Agree (entry bs) (entry (bases_from n (bodies E ds))) ds →
     blocks_in_turn E bs ds ≡ program_from (entry bs) n (bodies E ds)
 in-turn E bs [] n u a = refl
 in-turn E bs (d ∷ ds) n u a =
@@ -139,14 +160,16 @@ in-turn E bs (d ∷ ds) n u a =
     by_body p.0 (λ m b. in-turn E bs ds m p.1 b) (erased_bodies E d) a
   where
     by_body : list_all (λ c. not (same_id d c)) ds ≡ true →
-        ((m : ℕ) → Agree (entry bs) (entry (bases_from m (bodies E ds))) ds → blocks_in_turn E bs ds ≡ program_from (entry bs) m (bodies E ds)) →
+        ((m : ℕ) → Agree (entry bs) (entry (bases_from m (bodies E ds))) ds →
+        blocks_in_turn E bs ds ≡ program_from (entry bs) m (bodies E ds)) →
         (o : Option Lean) → Agree (entry bs) (entry (bases_from n (with_body d o (bodies E ds)))) (d ∷ ds) →
         blocks_of bs d o ++ blocks_in_turn E bs ds ≡ program_from (entry bs) n (with_body d o (bodies E ds))
     by_body v later None a = later n a.1
     by_body v later (Some t) a =
         let first : Base = record { id = d; block = n } in
         let behind : List Base = bases_from (numbers_end n t) (bodies E ds) in
-        ap₂ (λ k is. lowered (entry bs) k (record { id = d; term = t }) ++ is) (a.0 ∙ ap block_of (found_first base_id d first behind refl))
+        ap₂ (λ k is. lowered (entry bs) k (record { id = d; term = t }) ++ is)
+        (a.0 ∙ ap block_of (found_first base_id d first behind refl))
         (later (numbers_end n t) (agree-behind (entry bs) first behind ds v a.1))
 
 -- the blocks of the definitions in turn are the program
@@ -155,7 +178,10 @@ pub blocks_are_program : (E : Env) (ds : List GlobalId) → ids_differ ds ≡ tr
 blocks_are_program E ds u = in-turn E (bases (bodies E ds)) ds 0 u (agree-itself (entry (bases (bodies E ds))) ds)
 
 -- ---- the program's own counts
-pub program_excess : (E : Env) (ds : List GlobalId) → excess (total_blocks (map (sized E) ds)) (total_instructions (map (sized E) ds)) ≡ excess_of (program (bodies E ds))
+pub program_excess : (E : Env) (ds : List GlobalId) →
+    excess (total_blocks (map (sized E) ds)) (total_instructions (map (sized E) ds)) ≡ excess_of
+    (program (bodies E ds))
 program_excess E ds =
     same_excess E ds
-    ∙ ap₂ excess (sym (program-blocks (entry (bases (bodies E ds))) 0 (bodies E ds))) (sym (program-instructions (entry (bases (bodies E ds))) 0 (bodies E ds)))
+    ∙ ap₂ excess (sym (program-blocks (entry (bases (bodies E ds))) 0 (bodies E ds)))
+    (sym (program-instructions (entry (bases (bodies E ds))) 0 (bodies E ds)))

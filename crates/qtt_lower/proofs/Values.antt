@@ -56,7 +56,8 @@ pub count-append : (vs : Values) (v : Value) → count (vs ▹▹ v ▹ Values.n
 count-append Values.none v = refl
 count-append (w ▹ vs) v = ap suc (count-append vs v)
 
-pub onto-append : (vs : Values) (v : Value) (below : List Value) → onto (vs ▹▹ v ▹ Values.none) below ≡ v ∷ onto vs below
+pub onto-append : (vs : Values) (v : Value) (below : List Value) →
+    onto (vs ▹▹ v ▹ Values.none) below ≡ v ∷ onto vs below
 onto-append Values.none v below = refl
 onto-append (w ▹ vs) v below = onto-append vs v (w ∷ below)
 
@@ -65,13 +66,18 @@ onto-append (w ▹ vs) v below = onto-append vs v (w ∷ below)
 ▹▹-none (v ▹ vs) = ap (λ ws. v ▹ ws) (▹▹-none vs)
 
 -- ---- what was pushed is taken
-taken-more : (vs : Values) (j : ℕ) (ws : Values) (below : List Value) → taken (count vs + j) ws (onto vs below) ≡ taken j (vs ▹▹ ws) below
+taken-more : (vs : Values) (j : ℕ) (ws : Values) (below : List Value) →
+    taken (count vs + j) ws (onto vs below) ≡ taken j (vs ▹▹ ws) below
 taken-more Values.none j ws below = ap (λ n. taken n ws below) (let e : 0 + j ≡ j = omega arith in e)
-taken-more (v ▹ vs) j ws below = ap (λ n. taken n ws (onto vs (v ∷ below))) (let e : suc (count vs) + j ≡ count vs + suc j = omega arith in e) ∙ taken-more vs (suc j) ws (v ∷ below)
+taken-more (v ▹ vs) j ws below =
+    ap (λ n. taken n ws (onto vs (v ∷ below))) (let e : suc (count vs) + j ≡ count vs + suc j = omega arith in e)
+    ∙ taken-more vs (suc j) ws (v ∷ below)
 
-pub taken-pushed : (vs : Values) (n : ℕ) (below : List Value) → n ≡ count vs → taken n Values.none (onto vs below) ≡ Some (record { values = vs; left = below })
+pub taken-pushed : (vs : Values) (n : ℕ) (below : List Value) → n ≡ count vs →
+    taken n Values.none (onto vs below) ≡ Some (record { values = vs; left = below })
 taken-pushed vs n below e =
-    ap (λ m. taken m Values.none (onto vs below)) (let f : n ≡ count vs + 0 = omega arith in f) ∙ taken-more vs 0 Values.none below
+    ap (λ m. taken m Values.none (onto vs below)) (let f : n ≡ count vs + 0 = omega arith in f) ∙
+    taken-more vs 0 Values.none below
     ∙ ap (λ ws. Some (record { values = ws; left = below })) (▹▹-none vs)
 
 -- ---- values are values, and have no free variable
@@ -85,7 +91,8 @@ module _ (P : Program) (D : Bodies Closure) where
     value-stays (Value.literal l) = refl
     value-stays (Value.con c vs) = ap (finish (closures P) D (Operator.con c) (flat_values vs)) (values-stay vs)
     value-stays (Value.closure b vs) =
-        ap (finish (closures P) D (Operator.function (record { number = b; captured = size (flat_values vs) })) (flat_values vs)) (waits-all P D (flat_values vs))
+        ap (finish (closures P) D (Operator.function (record { number = b; captured = size (flat_values vs) }))
+        (flat_values vs)) (waits-all P D (flat_values vs))
     value-stays (Value.action a vs) = ap (finish (closures P) D (Operator.act a) (flat_values vs)) (values-stay vs)
     value-stays (Value.tape n) = refl
     value-stays Value.type = refl
@@ -97,7 +104,8 @@ module _ (P : Program) (D : Bodies Closure) where
         ∙ ap (behind (flat_value v)) (values-stay vs)
 
 -- ---- branches: fields put into a branch into which a frame's variables were put
-lifted-once : (t : FlatTerm) (σ τ : ℕ → FlatTerm) → (λ i. sub binders (cons t τ) (lift binders σ i)) ≡ cons t (λ i. sub binders τ (σ i))
+lifted-once : (t : FlatTerm) (σ τ : ℕ → FlatTerm) →
+    (λ i. sub binders (cons t τ) (lift binders σ i)) ≡ cons t (λ i. sub binders τ (σ i))
 lifted-once t σ τ = fun_ext go
   where
     go : (i : ℕ) → sub binders (cons t τ) (lift binders σ i) ≡ cons t (λ j. sub binders τ (σ j)) i
@@ -110,11 +118,14 @@ lifted-pushed ∅ σ τ = refl
 lifted-pushed (t ◂ ts) σ τ = lifted-pushed ts (lift binders σ) (cons t τ) ∙ ap (push ts) (lifted-once t σ τ)
 
 pub branch-filled : (ts us : FlatTerms) (n : ℕ) (b : FlatTerm) → size us ≡ n →
-    sub binders (push us Tree.var) (sub binders (lifts binders n (push ts Tree.var)) b) ≡ sub binders (push (ts ◂◂ us) Tree.var) b
+    sub binders (push us Tree.var) (sub binders (lifts binders n (push ts Tree.var)) b) ≡ sub binders
+    (push (ts ◂◂ us) Tree.var) b
 branch-filled ts us n b e =
     ap (λ m. sub binders (push us Tree.var) (sub binders (lifts binders m (push ts Tree.var)) b)) (sym e)
     ∙ sub-sub binders b (push us Tree.var) (lifts binders (size us) (push ts Tree.var))
-    ∙ ap (λ σ. sub binders σ b) (lifted-pushed us (push ts Tree.var) Tree.var ∙ ap (push us) (fun_ext (λ i. sub-var binders (push ts Tree.var i))) ∙ sym (push-append ts us Tree.var))
+    ∙ ap (λ σ. sub binders σ b)
+    (lifted-pushed us (push ts Tree.var) Tree.var ∙ ap (push us)
+    (fun_ext (λ i. sub-var binders (push ts Tree.var i))) ∙ sym (push-append ts us Tree.var))
 
 -- ---- a frame's variables
 shift-none : (n : ℕ) → shift n 0 ≡ n
@@ -127,15 +138,18 @@ pub record Found (ρ : List Value) (σ : ℕ → FlatTerm) (i : ℕ) : Type 0 wh
   pub put : σ i ≡ flat_value value
   pub stands : slice_get ρ (length ρ - suc i) ≡ Some value
 
-found-older : (v : Value) (ρ : List Value) (τ : ℕ → FlatTerm) (i : ℕ) → i < length ρ → Found ρ (push (flats ρ) (cons (flat_value v) τ)) i →
+found-older : (v : Value) (ρ : List Value) (τ : ℕ → FlatTerm) (i : ℕ) → i < length ρ →
+    Found ρ (push (flats ρ) (cons (flat_value v) τ)) i →
     Found (v ∷ ρ) (push (flats (v ∷ ρ)) τ) i
 found-older v ρ τ i p w = record {
   value = w.value;
   put = w.put;
-  stands = ap (slice_get (v ∷ ρ)) (let e : suc (length ρ) - suc i ≡ suc (length ρ - suc i) = omega (arith, p) in e) ∙ w.stands;
+  stands = ap (slice_get (v ∷ ρ))
+      (let e : suc (length ρ) - suc i ≡ suc (length ρ - suc i) = omega (arith, p) in e) ∙ w.stands;
 }
 
-found-newest : (v : Value) (ρ : List Value) (τ : ℕ → FlatTerm) (i : ℕ) → i ≡ length ρ → Found (v ∷ ρ) (push (flats (v ∷ ρ)) τ) i
+found-newest : (v : Value) (ρ : List Value) (τ : ℕ → FlatTerm) (i : ℕ) → i ≡ length ρ →
+    Found (v ∷ ρ) (push (flats (v ∷ ρ)) τ) i
 found-newest v ρ τ i e = record {
   value = v;
   put =
@@ -157,7 +171,10 @@ in-first [] ys k h = absurd (omega (arith, h))
 in-first (x ∷ xs) ys zero h = refl
 in-first (x ∷ xs) ys (suc k) h = in-first xs ys k (omega (arith, h))
 
-pub in-second : {A : Type 0} (xs ys : List A) (k : ℕ) → length xs ≤ k → slice_get (xs ++ ys) k ≡ slice_get ys (k - length xs)
+pub in-second : {A : Type 0} (xs ys : List A) (k : ℕ) → length xs ≤ k →
+    slice_get (xs ++ ys) k ≡ slice_get ys (k - length xs)
 in-second [] ys k h = ap (slice_get ys) (let e : k ≡ k - 0 = omega arith in e)
 in-second (x ∷ xs) ys zero h = absurd (omega (arith, h))
-in-second (x ∷ xs) ys (suc k) h = in-second xs ys k (omega (arith, h)) ∙ ap (slice_get ys) (let e : k - length xs ≡ suc k - suc (length xs) = omega arith in e)
+in-second (x ∷ xs) ys (suc k) h =
+    in-second xs ys k (omega (arith, h)) ∙ ap (slice_get ys)
+    (let e : k - length xs ≡ suc k - suc (length xs) = omega arith in e)

@@ -52,10 +52,12 @@ has-left P n (z ∷ xs) ys h (suc k) x e = h (suc k) x (left xs k e)
     left (w ∷ xs) zero e = e
     left (w ∷ xs) (suc k) e = left xs k e
 
-has-right : {A : Type 0} (P : ℕ → Option A) (n m : ℕ) (xs ys : List A) → n + length xs ≡ m → Has P n (xs ++ ys) → Has P m ys
+has-right : {A : Type 0} (P : ℕ → Option A) (n m : ℕ) (xs ys : List A) → n + length xs ≡ m → Has P n (xs ++ ys) →
+    Has P m ys
 has-right P n m xs ys z h k x e =
     ap P (let w : m + k ≡ n + (length xs + k) = omega (arith, z) in w)
-    ∙ h (length xs + k) x (in-second xs ys (length xs + k) (omega arith) ∙ ap (slice_get ys) (let w : length xs + k - length xs ≡ k = omega arith in w) ∙ e)
+    ∙ h (length xs + k) x (in-second xs ys (length xs + k) (omega arith) ∙ ap (slice_get ys)
+    (let w : length xs + k - length xs ≡ k = omega arith in w) ∙ e)
 
 has-holds : (P : flat.Program) (n : ℕ) (Fs : List Function) → Has P n Fs → Holds P n Fs
 has-holds P n [] h = tt
@@ -69,7 +71,8 @@ abbrev OnFunction : Option Function → Type 0
 OnFunction None = Unit {0}
 OnFunction (Some F) = Lowerable (F.captured + F.takes) F.body
 
-lowerable-at : (Fs : List Function) → AreLowerable Fs → (k : ℕ) (F : Function) → slice_get Fs k ≡ Some F → Lowerable (F.captured + F.takes) F.body
+lowerable-at : (Fs : List Function) → AreLowerable Fs → (k : ℕ) (F : Function) → slice_get Fs k ≡ Some F →
+    Lowerable (F.captured + F.takes) F.body
 lowerable-at [] h k F e = absurd (cc e)
 lowerable-at (G ∷ Fs) h zero F e = subst (λ o. OnFunction o) e h.0
 lowerable-at (G ∷ Fs) h (suc k) F e = lowerable-at Fs h.1 k F e
@@ -84,13 +87,15 @@ source-lowerable n t s = (
 )
 
 module _ (e : GlobalId → ℕ) where
-  blocks-of : (n : ℕ) (bs : List Body) → AreSources bs → (k : ℕ) (F : Function) → slice_get (functions_from n bs) k ≡ Some F → IsBlock e (program_from e n bs) k F
+  blocks-of : (n : ℕ) (bs : List Body) → AreSources bs →
+      (k : ℕ) (F : Function) → slice_get (functions_from n bs) k ≡ Some F → IsBlock e (program_from e n bs) k F
   blocks-of n [] s k F h = absurd (cc h)
   blocks-of n (b ∷ bs) s k F h = elim (cases_lt k (length (conversion n b.term))) [
     | inl p ↦
         let f = sym (in-first (conversion n b.term) (functions_from (numbers_end n b.term) bs) k p) ∙ h in (
           b.id,
-          in-first (lowered e n b) (program_from e (numbers_end n b.term) bs) k (subst (λ m. k < m) (sym (length-map (conversion n b.term) (block e b.id))) p)
+          in-first (lowered e n b) (program_from e (numbers_end n b.term) bs) k
+              (subst (λ m. k < m) (sym (length-map (conversion n b.term) (block e b.id))) p)
               ∙ slice_get-map (block e b.id) (conversion n b.term) k ∙ ap (option_map (block e b.id)) f,
           lowerable-at (conversion n b.term) (source-lowerable n b.term s.0) k F f,
         )
@@ -98,8 +103,10 @@ module _ (e : GlobalId → ℕ) where
         let f = sym (in-second (conversion n b.term) (functions_from (numbers_end n b.term) bs) k q) ∙ h in
         let r = blocks-of (numbers_end n b.term) bs s.1 (k - length (conversion n b.term)) F f in (
           r.0,
-          in-second (lowered e n b) (program_from e (numbers_end n b.term) bs) k (subst (λ m. m ≤ k) (sym (length-map (conversion n b.term) (block e b.id))) q)
-              ∙ ap (λ m. slice_get (program_from e (numbers_end n b.term) bs) (k - m)) (length-map (conversion n b.term) (block e b.id)) ∙ r.1,
+          in-second (lowered e n b) (program_from e (numbers_end n b.term) bs) k
+              (subst (λ m. m ≤ k) (sym (length-map (conversion n b.term) (block e b.id))) q)
+              ∙ ap (λ m. slice_get (program_from e (numbers_end n b.term) bs) (k - m))
+              (length-map (conversion n b.term) (block e b.id)) ∙ r.1,
           r.2,
         )
   ]
@@ -109,69 +116,86 @@ module _ (e : GlobalId → ℕ) where
   IsDefined C None n = Unit {0}
   IsDefined C (Some u) n = IsBlock e C n (record { captured = 0; takes = 0; body = u })
 
-  definitions-of : (C : Program) (n : ℕ) (bs : List Body) → AreSources bs → Has (slice_get C) n (program_from e n bs) → (d : GlobalId) →
+  definitions-of : (C : Program) (n : ℕ) (bs : List Body) → AreSources bs →
+      Has (slice_get C) n (program_from e n bs) → (d : GlobalId) →
       IsDefined C (flat_bodies_from n bs d) (block_of (with_id base_id d (bases_from n bs)))
   definitions-of C n [] s h d = tt
   definitions-of C n (b ∷ bs) s h d = tested (same_id b.id d) (definitions-of C (numbers_end n b.term) bs s.1 later d)
     where
       later : Has (slice_get C) (numbers_end n b.term) (program_from e (numbers_end n b.term) bs)
-      later = has-right (slice_get C) n (numbers_end n b.term) (lowered e n b) (program_from e (numbers_end n b.term) bs)
+      later = has-right (slice_get C) n (numbers_end n b.term) (lowered e n b)
+          (program_from e (numbers_end n b.term) bs)
           (ap (λ m. n + m) (length-map (conversion n b.term) (block e b.id)) ∙ functions-end n b.term) h
 
       own : IsDefined C (Some (flat_term (suc n) [] b.term)) n
       own = (
         b.id,
-        ap (slice_get C) (let w : n ≡ n + 0 = omega arith in w) ∙ has-left (slice_get C) n (lowered e n b) (program_from e (numbers_end n b.term) bs) h 0 _ refl,
+        ap (slice_get C) (let w : n ≡ n + 0 = omega arith in w) ∙ has-left (slice_get C) n (lowered e n b)
+            (program_from e (numbers_end n b.term) bs) h 0 _ refl,
         flat-lowerable b.term (suc n) [] s.0.formed s.0.plain (source-scoped b.term s.0),
       )
 
-      tested : (x : Bool) → IsDefined C (flat_bodies_from (numbers_end n b.term) bs d) (block_of (with_id base_id d (bases_from (numbers_end n b.term) bs))) →
+      tested : (x : Bool) → IsDefined C (flat_bodies_from (numbers_end n b.term) bs d)
+          (block_of (with_id base_id d (bases_from (numbers_end n b.term) bs))) →
           IsDefined C (cond x (Some (flat_term (suc n) [] b.term)) (flat_bodies_from (numbers_end n b.term) bs d))
-          (block_of (cond x (Some (record { id = b.id; block = n })) (with_id base_id d (bases_from (numbers_end n b.term) bs))))
+          (block_of (cond x (Some (record { id = b.id; block = n }))
+          (with_id base_id d (bases_from (numbers_end n b.term) bs))))
       tested true r = own
       tested false r = r
 
-conversions-of : (P : flat.Program) (n : ℕ) (bs : List Body) → AreSources bs → Has P n (functions_from n bs) → (d : GlobalId) →
+conversions-of : (P : flat.Program) (n : ℕ) (bs : List Body) → AreSources bs → Has P n (functions_from n bs) →
+    (d : GlobalId) →
     IsConversion P (lean_bodies bs d) (flat_bodies_from n bs d)
 conversions-of P n [] s h d = refl
 conversions-of P n (b ∷ bs) s h d = tested (same_id b.id d) (conversions-of P (numbers_end n b.term) bs s.1 later d)
   where
     later : Has P (numbers_end n b.term) (functions_from (numbers_end n b.term) bs)
-    later = has-right P n (numbers_end n b.term) (conversion n b.term) (functions_from (numbers_end n b.term) bs) (functions-end n b.term) h
+    later = has-right P n (numbers_end n b.term) (conversion n b.term) (functions_from (numbers_end n b.term) bs)
+        (functions-end n b.term) h
 
     here : Has P n (conversion n b.term)
     here = has-left P n (conversion n b.term) (functions_from (numbers_end n b.term) bs) h
 
     held : Holds P (suc n) (functions (suc n) [] b.term)
-    held = has-holds P (suc n) (functions (suc n) [] b.term) (λ k x f. ap P (let w : suc n + k ≡ n + suc k = omega arith in w) ∙ here (suc k) x f)
+    held = has-holds P (suc n) (functions (suc n) [] b.term)
+        (λ k x f. ap P (let w : suc n + k ≡ n + suc k = omega arith in w) ∙ here (suc k) x f)
 
     tested : (x : Bool) → IsConversion P (lean_bodies bs d) (flat_bodies_from (numbers_end n b.term) bs d) →
-        IsConversion P (cond x (Some b.term) (lean_bodies bs d)) (cond x (Some (flat_term (suc n) [] b.term)) (flat_bodies_from (numbers_end n b.term) bs d))
+        IsConversion P (cond x (Some b.term) (lean_bodies bs d))
+        (cond x (Some (flat_term (suc n) [] b.term)) (flat_bodies_from (numbers_end n b.term) bs d))
     tested true r = (suc n, refl, record { formed = s.0.formed; closed = s.0.closed; held = held })
     tested false r = r
 
 -- ---- the erased bodies of an environment
-found-or-none : (E : Env) (ds : List GlobalId) (d : GlobalId) → (lean_bodies (bodies E ds) d ≡ erased_bodies E d) ⊎ (lean_bodies (bodies E ds) d ≡ None)
+found-or-none : (E : Env) (ds : List GlobalId) (d : GlobalId) →
+    (lean_bodies (bodies E ds) d ≡ erased_bodies E d) ⊎ (lean_bodies (bodies E ds) d ≡ None)
 found-or-none E [] d = inr refl
 found-or-none E (c ∷ ds) d = body (erased_bodies E c) refl (found-or-none E ds d)
   where
-    tested : (t : Lean) (x : Bool) → erased_bodies E c ≡ Some t → same_id c d ≡ x → (lean_bodies (bodies E ds) d ≡ erased_bodies E d) ⊎ (lean_bodies (bodies E ds) d ≡ None) →
-        (cond x (Some t) (lean_bodies (bodies E ds) d) ≡ erased_bodies E d) ⊎ (cond x (Some t) (lean_bodies (bodies E ds) d) ≡ None)
+    tested : (t : Lean) (x : Bool) → erased_bodies E c ≡ Some t → same_id c d ≡ x →
+        (lean_bodies (bodies E ds) d ≡ erased_bodies E d) ⊎ (lean_bodies (bodies E ds) d ≡ None) →
+        (cond x (Some t) (lean_bodies (bodies E ds) d) ≡ erased_bodies E d) ⊎
+        (cond x (Some t) (lean_bodies (bodies E ds) d) ≡ None)
     tested t true q z r = inl (sym q ∙ ap (erased_bodies E) (same_id-is c d z))
     tested t false q z r = r
 
-    body : (o : Option Lean) → erased_bodies E c ≡ o → (lean_bodies (bodies E ds) d ≡ erased_bodies E d) ⊎ (lean_bodies (bodies E ds) d ≡ None) →
-        (lean_bodies (with_body c o (bodies E ds)) d ≡ erased_bodies E d) ⊎ (lean_bodies (with_body c o (bodies E ds)) d ≡ None)
+    body : (o : Option Lean) → erased_bodies E c ≡ o →
+        (lean_bodies (bodies E ds) d ≡ erased_bodies E d) ⊎ (lean_bodies (bodies E ds) d ≡ None) →
+        (lean_bodies (with_body c o (bodies E ds)) d ≡ erased_bodies E d) ⊎
+        (lean_bodies (with_body c o (bodies E ds)) d ≡ None)
     body None q r = r
     body (Some t) q r = tested t (same_id c d) q refl r
 
-first-found : (E : Env) (c : GlobalId) (ds : List GlobalId) (d : GlobalId) → c ≡ d → (o : Option Lean) → erased_bodies E c ≡ o →
+first-found : (E : Env) (c : GlobalId) (ds : List GlobalId) (d : GlobalId) → c ≡ d →
+    (o : Option Lean) → erased_bodies E c ≡ o →
     lean_bodies (with_body c o (bodies E ds)) d ≡ erased_bodies E d
 first-found E c ds d h None q = elim (found-or-none E ds d) [ inl p ↦ p | inr p ↦ p ∙ sym q ∙ ap (erased_bodies E) h ]
 first-found E c ds d h (Some t) q =
-    ap (λ b. cond b (Some t) (lean_bodies (bodies E ds) d)) (subst (λ x. same_id c x ≡ true) h (id-same c)) ∙ sym q ∙ ap (erased_bodies E) h
+    ap (λ b. cond b (Some t) (lean_bodies (bodies E ds) d)) (subst (λ x. same_id c x ≡ true) h (id-same c)) ∙
+    sym q ∙ ap (erased_bodies E) h
 
-later-found : (E : Env) (c : GlobalId) (ds : List GlobalId) (d : GlobalId) (o : Option Lean) → erased_bodies E c ≡ o → lean_bodies (bodies E ds) d ≡ erased_bodies E d →
+later-found : (E : Env) (c : GlobalId) (ds : List GlobalId) (d : GlobalId) (o : Option Lean) →
+    erased_bodies E c ≡ o → lean_bodies (bodies E ds) d ≡ erased_bodies E d →
     lean_bodies (with_body c o (bodies E ds)) d ≡ erased_bodies E d
 later-found E c ds d None q r = r
 later-found E c ds d (Some t) q r = tested (same_id c d) refl
@@ -180,12 +204,16 @@ later-found E c ds d (Some t) q r = tested (same_id c d) refl
     tested true z = sym q ∙ ap (erased_bodies E) (same_id-is c d z)
     tested false z = r
 
-bodies-found : (E : Env) (ds : List GlobalId) (d : GlobalId) (k : ℕ) → k < length ds → get_or ds k d ≡ d → lean_bodies (bodies E ds) d ≡ erased_bodies E d
+bodies-found : (E : Env) (ds : List GlobalId) (d : GlobalId) (k : ℕ) → k < length ds → get_or ds k d ≡ d →
+    lean_bodies (bodies E ds) d ≡ erased_bodies E d
 bodies-found E [] d k h g = absurd (omega (arith, h))
 bodies-found E (c ∷ ds) d zero h g = first-found E c ds d g (erased_bodies E c) refl
-bodies-found E (c ∷ ds) d (suc k) h g = later-found E c ds d (erased_bodies E c) refl (bodies-found E ds d k (omega (arith, h)) g)
+bodies-found E (c ∷ ds) d (suc k) h g =
+    later-found E c ds d (erased_bodies E c) refl (bodies-found E ds d k (omega (arith, h)) g)
 
-all-found : (E : Env) (ds : List GlobalId) → ((d : GlobalId) (t : Lean) → erased_bodies E d ≡ Some t → Contains ds d) → lean_bodies (bodies E ds) ≡ erased_bodies E
+all-found : (E : Env) (ds : List GlobalId) →
+    ((d : GlobalId) (t : Lean) → erased_bodies E d ≡ Some t → Contains ds d) →
+    lean_bodies (bodies E ds) ≡ erased_bodies E
 all-found E ds h = fun_ext (λ d. at d (erased_bodies E d) refl)
   where
     at : (d : GlobalId) (o : Option Lean) → erased_bodies E d ≡ o → lean_bodies (bodies E ds) d ≡ erased_bodies E d
@@ -194,11 +222,13 @@ all-found E ds h = fun_ext (λ d. at d (erased_bodies E d) refl)
 
 pub programs-are-lowered : ProgramsAreLowered
 programs-are-lowered = record {
-  conversions = λ bs s d. conversions-of (flat_program bs) 0 bs s (λ k x h. ap (slice_get (functions_from 0 bs)) (let w : 0 + k ≡ k = omega arith in w) ∙ h) d;
+  conversions = λ bs s d. conversions-of (flat_program bs) 0 bs s
+      (λ k x h. ap (slice_get (functions_from 0 bs)) (let w : 0 + k ≡ k = omega arith in w) ∙ h) d;
   blocks = λ bs s. record {
     functions = λ n F h. blocks-of (entry (bases bs)) 0 bs s n F h;
     definitions = λ d u h. subst (λ o. IsDefined (entry (bases bs)) (program bs) o (entry (bases bs) d)) h
-        (definitions-of (entry (bases bs)) (program bs) 0 bs s (λ k x g. ap (slice_get (program bs)) (let w : 0 + k ≡ k = omega arith in w) ∙ g) d);
+        (definitions-of (entry (bases bs)) (program bs) 0 bs s
+        (λ k x g. ap (slice_get (program bs)) (let w : 0 + k ≡ k = omega arith in w) ∙ g) d);
   };
   sources = λ E h ds. bodies-are-sources E h ds;
   erased = all-found;

@@ -51,7 +51,8 @@ pub record Runs (e : GlobalId → ℕ) (P : flat.Program) (t : Lean) (s : State)
 
 -- what a state does where its term has this outcome. Of a term that is stuck nothing is said
 abbrev pub FollowsErased : (GlobalId → ℕ) → flat.Program → Program → Lean → State → Outcome Lean → Type 0
-FollowsErased e P C t s Outcome.value = (v : Value) × (r : State) × StandsFor P t (flat_value v) × Reaches C 0 s r × (instruction C r ≡ Did.ends v)
+FollowsErased e P C t s Outcome.value =
+    (v : Value) × (r : State) × StandsFor P t (flat_value v) × Reaches C 0 s r × (instruction C r ≡ Did.ends v)
 FollowsErased e P C t s (Outcome.step u) = (r : State) × Reaches C 1 s r × Runs e P u r
 FollowsErased e P C t s (Outcome.trap k) = (r : State) × Reaches C 0 s r × (instruction C r ≡ Did.traps k)
 FollowsErased e P C t s Outcome.stuck = Unit {0}
@@ -62,7 +63,8 @@ HaltsAfter C bound s n h = (a : Advances C bound s h) × (a.made ≡ n)
 
 -- the same ending after as many ticks as steps
 abbrev pub Answers : flat.Program → Program → ℕ → State → ℕ → Ending → Type 0
-Answers P C bound s n (Ending.value t) = (v : Value) × StandsFor P t (flat_value v) × HaltsAfter C bound s n (Halt.done v)
+Answers P C bound s n (Ending.value t) =
+    (v : Value) × StandsFor P t (flat_value v) × HaltsAfter C bound s n (Halt.done v)
 Answers P C bound s n (Ending.trapped k) = HaltsAfter C bound s n (Halt.trapped k)
 Answers P C bound s n Ending.going = HaltsAfter C bound s n Halt.spent
 Answers P C bound s n Ending.stuck = Unit {0}

@@ -1,5 +1,5 @@
--- Which flat terms are lowered: those that conversion gives. A closure captures variables, no tape stands anywhere, and what has a value
--- of its own has no components.
+-- Which flat terms are lowered: those that conversion gives. A closure captures variables, no tape stands
+-- anywhere, and what has a value of its own has no components.
 use Rattle.std.specs.Prelude.{◌≡◌, ℕ, ◌+◌, ◌<◌, List, Some, slice_get}
 use Rattle.qtt_base.specs.declared.place.GlobalId.{GlobalId}
 use Rattle.qtt_term.specs.Term.{first, rest}
@@ -46,4 +46,5 @@ IsBlock e C n F = (d : GlobalId) × (slice_get C n ≡ Some (block e d F)) × Lo
 -- a program has the block of each function at its number, and that of each definition at its entry
 pub record IsLowered (e : GlobalId → ℕ) (P : flat.Program) (D : Bodies Closure) (C : Program) : Type 0 where
   pub functions : (n : ℕ) (F : Function) → P n ≡ Some F → IsBlock e C n F
-  pub definitions : (d : GlobalId) (u : FlatTerm) → D d ≡ Some u → IsBlock e C (e d) (record { captured = 0; takes = 0; body = u })
+  pub definitions : (d : GlobalId) (u : FlatTerm) → D d ≡ Some u →
+      IsBlock e C (e d) (record { captured = 0; takes = 0; body = u })

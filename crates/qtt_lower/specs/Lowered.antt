@@ -33,7 +33,8 @@ branches_places o p (b ∷ bs) = p ∷ branches_places o (p + branch_width o b b
 abbrev pub branches_code : (GlobalId → ℕ) → ℕ → Position → ℕ → ℕ → ℕ → List (ℕ × FlatTerm) → List Instr
 branches_code e c o d p end [] = []
 branches_code e c o d p end (b ∷ bs) =
-    code e c o (b.0 + d) p b.1 ++ joins o b.0 (field_counts bs) end ++ branches_code e c o d (p + branch_width o b bs) end bs
+    code e c o (b.0 + d) p b.1 ++ joins o b.0 (field_counts bs) end ++ branches_code e c o d
+    (p + branch_width o b bs) end bs
 
 -- a switch to branches, the first of them at place p, and these
 abbrev pub switch_code : (GlobalId → ℕ) → ℕ → Position → ℕ → ℕ → List (ℕ × FlatTerm) → List Instr

@@ -1,5 +1,6 @@
--- Lowering of flat terms to instructions. A term's code leaves its value on top of what was pushed; in tail position it gives the value back.
--- The components come first, left to right; of a Case the scrutinee comes first, then the switch, then the branches.
+-- Lowering of flat terms to instructions. A term's code leaves its value on top of what was pushed; in tail
+-- position it gives the value back. The components come first, left to right; of a Case the scrutinee comes
+-- first, then the switch, then the branches.
 use Rattle.std.specs.Prelude.{ℕ, zero, suc, ◌+◌, ◌-◌, ltb, List, [], ◌∷◌, ◌++◌, length, map, cond}
 use Rattle.qtt_base.specs.declared.place.GlobalId.{GlobalId}
 use Rattle.qtt_erase.specs.Binding.{Tree, ∅, ◌◂◌, size}
@@ -17,8 +18,8 @@ given Position.tail i = i ∷ Instr.return ∷ []
 abbrev pub variable : ℕ → ℕ → Instr
 variable captured l = cond (ltb l captured) (Instr.captured l) (Instr.local (l - captured))
 
--- where definitions have these blocks: behind the code of n components, and before branches with their code at these places.
--- No tape stands in a definition
+-- where definitions have these blocks: behind the code of n components, and before branches with their code at
+-- these places. No tape stands in a definition
 abbrev pub own : (GlobalId → ℕ) → Position → Operator Closure → ℕ → List ℕ → List Instr
 own entry o (Operator.function f) n places = given o (Instr.closure f.number n)
 own entry o Operator.app n places = Instr.call o ∷ []
@@ -108,7 +109,8 @@ branch_places o p (n ∷ ns) (t ◂ ts) = p ∷ branch_places o (p + width o t +
 abbrev pub branches_from : Position → ℕ → Operator Closure → FlatTerms → ℕ
 branches_from o p F ts = p + widths (branch_count F) ts + own_width o F
 
--- ---- the code of a term of d variables from place p on, where definitions have these blocks and so many of the variables are captured
+-- ---- the code of a term of d variables from place p on, where definitions have these blocks and so many of the
+-- variables are captured
 module _ (entry : GlobalId → ℕ) (captured : ℕ) where
   abbrev mutual
     pub code : Position → ℕ → ℕ → FlatTerm → List Instr

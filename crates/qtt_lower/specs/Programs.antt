@@ -1,4 +1,5 @@
--- Programs. Each definition that is not 0 has a block, in the order of modules and items; after it come its inner functions.
+-- Programs. Each definition that is not 0 has a block, in the order of modules and items; after it come its inner
+-- functions.
 use Rattle.std.specs.Prelude.{ℕ, suc, List, [], ◌∷◌, ◌++◌, length, Option, Some, None, cond, slice_get, sum_by}
 use Rattle.qtt_base.specs.declared.place.GlobalId.{GlobalId}
 use Rattle.qtt_term.specs.Term.{same_id}
@@ -47,7 +48,8 @@ lean_bodies (b ∷ bs) d = cond (same_id b.id d) (Some b.term) (lean_bodies bs d
 
 abbrev pub flat_bodies_from : ℕ → List Body → Bodies Closure
 flat_bodies_from n [] d = None
-flat_bodies_from n (b ∷ bs) d = cond (same_id b.id d) (Some (flat_term (suc n) [] b.term)) (flat_bodies_from (numbers_end n b.term) bs d)
+flat_bodies_from n (b ∷ bs) d =
+    cond (same_id b.id d) (Some (flat_term (suc n) [] b.term)) (flat_bodies_from (numbers_end n b.term) bs d)
 
 abbrev pub flat_bodies : List Body → Bodies Closure
 flat_bodies bs = flat_bodies_from 0 bs

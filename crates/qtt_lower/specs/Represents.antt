@@ -1,5 +1,6 @@
--- Which flat term a state of the machine stands for. The frame that runs computes a part of the term; the operators around that part are
--- pending: of each, the components so far are values, which stand among what its frame has pushed, and its code goes on behind them.
+-- Which flat term a state of the machine stands for. The frame that runs computes a part of the term; the
+-- operators around that part are pending: of each, the components so far are values, which stand among what its
+-- frame has pushed, and its code goes on behind them.
 use Rattle.std.specs.Prelude.{◌≡◌, ℕ, zero, suc, ◌+◌, List, [], ◌∷◌, ◌++◌, length, Some, slice_get}
 use Rattle.qtt_base.specs.declared.place.GlobalId.{GlobalId}
 use Rattle.qtt_erase.specs.Binding.{Tree, ∅, ◌◂◌, ◌◂◂◌, size, push, sub, subs}
@@ -73,9 +74,11 @@ firsts (suc k) (t ◂ ts) = t ◂ firsts k ts
 abbrev pub front : Frame → Operator Closure → FlatTerms → FlatTerms
 front f F ts = subs binders (branches F) (filling f) (firsts (branch_count F) ts)
 
--- such an operator, where the components behind the branches have values so far, and us are still to be computed behind the next one
+-- such an operator, where the components behind the branches have values so far, and us are still to be computed
+-- behind the next one
 abbrev pub pending : Frame → Operator Closure → FlatTerms → Values → FlatTerms → Pending
-pending f F ts vs us = record { operator = F; before = front f F ts ◂◂ flat_values vs; behind = subs binders [] (filling f) us }
+pending f F ts vs us = record
+    { operator = F; before = front f F ts ◂◂ flat_values vs; behind = subs binders [] (filling f) us }
 
 -- ---- instructions from a place on
 abbrev pub Stands : List Instr → ℕ → List Instr → Type 0
@@ -112,10 +115,13 @@ module _ (entry : GlobalId → ℕ) where
   rest_in f o F ts us =
       operands entry (length f.captured) (depth f) f.place 0 us
       ++ own entry o F (size ts) (branch_places o (rest_from o f.place F us) (branches F) ts)
-      ++ branch_codes entry (length f.captured) o (depth f) (rest_from o f.place F us) (rest_end o f.place F ts us) (branches F) ts
+      ++ branch_codes entry (length f.captured) o (depth f) (rest_from o f.place F us)
+      (rest_end o f.place F ts us) (branches F) ts
 
-  -- components with these values are pushed on others, k further ones before us are not, and the code goes on with us
-  pub record IsComputing (f : Frame) (o : Position) (F : Operator Closure) (ts : FlatTerms) (vs : Values) (k : ℕ) (us : FlatTerms) (below : List Value) : Type 0 where
+  -- components with these values are pushed on others, k further ones before us are not, and the code goes on
+  -- with us
+  pub record IsComputing (f : Frame) (o : Position) (F : Operator Closure) (ts : FlatTerms) (vs : Values) (k : ℕ)
+      (us : FlatTerms) (below : List Value) : Type 0 where
     pub computed : IsComputed F
     pub counted : branch_count F + (count vs + k + size us) ≡ size ts
     pub branches_lowerable : AllLowerable (branches F) (depth f) (firsts (branch_count F) ts)
@@ -131,18 +137,24 @@ module _ (entry : GlobalId → ℕ) where
 
     -- a frame before others does, once a value is pushed
     pub data Continues : Frame → List Frame → List Pending → Type 0 where
-      returns : {f : Frame} {fs : List Frame} {ps : List Pending} → Next f Instr.return → f.pushed ≡ [] → Waits fs ps → Continues f fs ps
-      jumps : {f : Frame} {fs : List Frame} {ps : List Pending} (q : ℕ) → Next f (Instr.jump q) → Continues (moved q f) fs ps → Continues f fs ps
-      leaves : {f : Frame} {fs : List Frame} {ps : List Pending} (kept dropped : List Value) → Next f (Instr.leave (length dropped)) →
+      returns : {f : Frame} {fs : List Frame} {ps : List Pending} → Next f Instr.return → f.pushed ≡ [] →
+          Waits fs ps → Continues f fs ps
+      jumps : {f : Frame} {fs : List Frame} {ps : List Pending} (q : ℕ) → Next f (Instr.jump q) →
+          Continues (moved q f) fs ps → Continues f fs ps
+      leaves : {f : Frame} {fs : List Frame} {ps : List Pending} (kept dropped : List Value) →
+          Next f (Instr.leave (length dropped)) →
           f.locals ≡ kept ++ dropped → Continues (onward (with_locals kept f)) fs ps → Continues f fs ps
-      component : {f : Frame} {fs : List Frame} {ps : List Pending} (o : Position) (F : Operator Closure) (ts : FlatTerms) (vs : Values) (us : FlatTerms)
-          (below : List Value) → IsComputing f o F ts vs 1 us below → Ends o (moved (rest_end o f.place F ts us) (left_with below f)) fs ps →
+      component : {f : Frame} {fs : List Frame} {ps : List Pending} (o : Position) (F : Operator Closure)
+          (ts : FlatTerms) (vs : Values) (us : FlatTerms)
+          (below : List Value) → IsComputing f o F ts vs 1 us below →
+          Ends o (moved (rest_end o f.place F ts us) (left_with below f)) fs ps →
           Continues f fs (pending f F ts vs us ∷ ps)
 
     -- a term's code is followed by what does so, or gives its value back
     pub data Ends : Position → Frame → List Frame → List Pending → Type 0 where
       goes_on : {f : Frame} {fs : List Frame} {ps : List Pending} → Continues f fs ps → Ends Position.inner f fs ps
-      gives_back : {f : Frame} {fs : List Frame} {ps : List Pending} → f.pushed ≡ [] → Waits fs ps → Ends Position.tail f fs ps
+      gives_back : {f : Frame} {fs : List Frame} {ps : List Pending} → f.pushed ≡ [] → Waits fs ps →
+          Ends Position.tail f fs ps
 
   pub data Represents : FlatTerm → State → Type 0 where
     -- the code of a term is next

@@ -5,7 +5,7 @@ use Rattle.qtt_base.specs.declared.place.GlobalId.{GlobalId}
 use Rattle.qtt_term.specs.Programs.{item, identity, boxed}
 use Rattle.qtt_term.specs.Signature.{Env, definition_at}
 use Rattle.qtt_term.specs.Items.{DefinitionEntry}
-use Rattle.qtt_erase.specs.Programs.{vectors}
+use Rattle.qtt_term.specs.Vectors.{vectors}
 use Rattle.qtt_code.specs.Instruction.{Position, Instr, Block, Program}
 use Rattle.qtt_code.specs.Listing.{listing}
 use Rattle.qtt_lower.specs.Programs.{bodies, program}
@@ -24,7 +24,8 @@ of_item i captured takes code = record { owner = item i; captured = captured; ta
 
 pub record LoweringRows : Type 0 where
   -- id x = x; main = putLine (showInt (id 3))
-  pub identity_listed : listing (named identity (item 0) (codes "Main.id") ∷ named identity (item 1) (codes "Main.main") ∷ [])
+  pub identity_listed : listing
+      (named identity (item 0) (codes "Main.id") ∷ named identity (item 1) (codes "Main.main") ∷ [])
       (lowering identity (item 0 ∷ item 1 ∷ []))
       ≡ lines (
       codes "block 0 Main.id captured 0 takes 0"

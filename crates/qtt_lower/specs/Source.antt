@@ -1,5 +1,5 @@
--- Which erased terms are lowered: no variable is free in them, no tape stands in them, each function has one body, and what has a value of
--- its own has no components. Erasure gives such terms.
+-- Which erased terms are lowered: no variable is free in them, no tape stands in them, each function has one
+-- body, and what has a value of its own has no components. Erasure gives such terms.
 use Rattle.std.specs.Prelude.{◌≡◌, List, [], ◌∷◌, Some, None}
 use Rattle.qtt_base.specs.declared.place.GlobalId.{GlobalId}
 use Rattle.qtt_term.specs.Term.{Form, Term, Terms, var, node, ε, ◌▸◌}
@@ -58,4 +58,5 @@ abbrev mutual
 
 -- the bodies of the definitions that are not 0 are so
 abbrev pub HasWholeBodies : Env → Type 0
-HasWholeBodies E = (d : GlobalId) (b : Term) → Usable Part.run (definition_at E d).mult → (definition_at E d).body ≡ Some b → IsWhole E b
+HasWholeBodies E = (d : GlobalId) (b : Term) → Usable Part.run (definition_at E d).mult →
+    (definition_at E d).body ≡ Some b → IsWhole E b

@@ -56,7 +56,8 @@ pub fn lower_one(
     id: GlobalId,
     bases: &Bases,
 ) -> Result<Vec<Block>, MemoryError>
-    ensures { IfOk result (λ v. blocks_view v.items ≡ blocks_of (bases_of bases.now) id (erased_bodies (env_of env.now) id)) }
+    ensures { IfOk result (λ v. blocks_view v.items ≡ blocks_of (bases_of bases.now) id
+        (erased_bodies (env_of env.now) id)) }
 {
     let mut blocks = Vec::new(alloc);
     let Some(lean) = erased_body(alloc, env, id)? else {

@@ -8,7 +8,8 @@ use std::alloc::Global;
 use std::thread;
 use std::thread::Threads;
 
-/// What a function answers for each id, in their order. Groups of at most so many are worked on at once, each after the one before it.
+/// What a function answers for each id, in their order. Groups of at most so many are worked on
+/// at once, each after the one before it.
 pub fn grouped<R: Threads + Sync, X: Send + Drop, F: Fn(GlobalId) -> Result<X, MemoryError> + Sync>(
     rt: &R,
     alloc: Global,

@@ -25,7 +25,8 @@ pub fn block(
     owner: GlobalId,
     function: &Function,
 ) -> Result<Block, MemoryError>
-    ensures { IfOk result (λ b. block_of b ≡ lowered_block (entry (bases_of bases.now)) owner (function_of function.now)) }
+    ensures { IfOk result (λ b. block_of b ≡ lowered_block (entry (bases_of bases.now)) owner
+        (function_of function.now)) }
 {
     let captured = function.captured;
     let takes = function.takes;
@@ -77,8 +78,12 @@ fn count(parts: &[FlatTerm]) -> Result<u32, MemoryError>
 
 /// Puts an instruction that pushes a value, and in tail position gives it back.
 fn give(code: &mut Vec<Instr>, position: Position, instr: Instr) -> Result<(), MemoryError>
-    ensures code { OnOk result (instrs code.new.items ≡ instrs code.old.items ++ given (position_of position) (instr_of instr)) }
-    ensures count { OnOk result (vec_len code.new ≡ vec_len code.old + length (given (position_of position) (instr_of instr))) }
+    ensures code { OnOk result
+        (instrs code.new.items ≡ instrs code.old.items ++ given (position_of position)
+        (instr_of instr)) }
+    ensures count { OnOk result
+        (vec_len code.new ≡ vec_len code.old + length
+        (given (position_of position) (instr_of instr))) }
 {
     code.push(instr)?;
     match position {
@@ -88,7 +93,8 @@ fn give(code: &mut Vec<Instr>, position: Position, instr: Instr) -> Result<(), M
     Ok(())
 }
 
-/// Puts what follows a branch with so many fields, before the others of a Case that ends at that place.
+/// Puts what follows a branch with so many fields, before the others of a Case that ends at that
+/// place.
 fn join(
     code: &mut Vec<Instr>,
     position: Position,
@@ -96,8 +102,12 @@ fn join(
     others: &[FlatBranch],
     end: u32,
 ) -> Result<(), MemoryError>
-    ensures code { OnOk result (instrs code.new.items ≡ instrs code.old.items ++ joins (position_of position) fields (field_counts (flat_branches others.now)) end) }
-    ensures count { OnOk result (vec_len code.new ≡ vec_len code.old + length (joins (position_of position) fields (field_counts (flat_branches others.now)) end)) }
+    ensures code { OnOk result
+        (instrs code.new.items ≡ instrs code.old.items ++ joins (position_of position) fields
+        (field_counts (flat_branches others.now)) end) }
+    ensures count { OnOk result
+        (vec_len code.new ≡ vec_len code.old + length
+        (joins (position_of position) fields (field_counts (flat_branches others.now)) end)) }
 {
     match position {
         Position::Tail => {}
@@ -125,8 +135,13 @@ fn lower(
     source: &FlatTerm,
     code: &mut Vec<Instr>,
 ) -> Result<(), MemoryError>
-    ensures code { OnOk result (instrs code.new.items ≡ instrs code.old.items ++ code_of (entry (bases_of bases.now)) captured (position_of position) depth (vec_len code.old) (flat_term source.now)) }
-    ensures count { OnOk result (vec_len code.new ≡ vec_len code.old + width_of (position_of position) (flat_term source.now)) }
+    ensures code { OnOk result
+        (instrs code.new.items ≡ instrs code.old.items ++ code_of
+        (entry (bases_of bases.now)) captured (position_of position) depth (vec_len code.old)
+        (flat_term source.now)) }
+    ensures count { OnOk result
+        (vec_len code.new ≡ vec_len code.old + width_of (position_of position)
+        (flat_term source.now)) }
 {
     match source {
         FlatTerm::Var(index) => {
@@ -206,8 +221,11 @@ fn lower_operands(
     sources: &[FlatTerm],
     code: &mut Vec<Instr>,
 ) -> Result<(), MemoryError>
-    ensures code { OnOk result (instrs code.new.items ≡ instrs code.old.items ++ all_code (entry (bases_of bases.now)) captured depth (vec_len code.old) (flat_terms sources.now)) }
-    ensures count { OnOk result (vec_len code.new ≡ vec_len code.old + all_width (flat_terms sources.now)) }
+    ensures code { OnOk result
+        (instrs code.new.items ≡ instrs code.old.items ++ all_code
+        (entry (bases_of bases.now)) captured depth (vec_len code.old) (flat_terms sources.now)) }
+    ensures count { OnOk result
+        (vec_len code.new ≡ vec_len code.old + all_width (flat_terms sources.now)) }
 {
     for source in sources {
         lower(alloc, bases, captured, Position::Inner, depth, source, code)?;
@@ -227,8 +245,13 @@ fn lower_branches(
     branches: &[FlatBranch],
     code: &mut Vec<Instr>,
 ) -> Result<(), MemoryError>
-    ensures code { OnOk result (instrs code.new.items ≡ instrs code.old.items ++ switch_code (entry (bases_of bases.now)) captured (position_of position) depth (vec_len code.old + 1) (flat_branches branches.now)) }
-    ensures count { OnOk result (vec_len code.new ≡ vec_len code.old + 1 + branches_width (position_of position) (flat_branches branches.now)) }
+    ensures code { OnOk result
+        (instrs code.new.items ≡ instrs code.old.items ++ switch_code
+        (entry (bases_of bases.now)) captured (position_of position) depth (vec_len code.old + 1)
+        (flat_branches branches.now)) }
+    ensures count { OnOk result
+        (vec_len code.new ≡ vec_len code.old + 1 + branches_width (position_of position)
+        (flat_branches branches.now)) }
 {
     let first = code.len().checked_add(1).ok_or(MemoryError)?;
     let (places, end) = branch_places(alloc, position, first, branches)?;

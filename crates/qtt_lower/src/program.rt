@@ -38,7 +38,8 @@ impl Compiled {
 
     /// The first block of a definition that is not 0.
     pub fn entry(&self, id: GlobalId) -> Option<u32>
-        ensures { result ≡ option_map (λ b. b.block) (with_id base_id id (compiled_bases self.now)) }
+        ensures { result ≡ option_map (λ b. b.block)
+            (with_id base_id id (compiled_bases self.now)) }
     {
         self.bases.first(id)
     }
@@ -99,7 +100,9 @@ fn raised(limit: u64, total: u64, more: u64) -> u64
 #[tactic(auto, using(crate::proofs::Excess::excesses))]
 fn within_limits(sizes: &[(GlobalId, Size)]) -> Result<(), LowerError>
     ensures few { OnOk result (total_blocks sizes.now ≤ standard.blocks) }
-    ensures excess { MatchResult result (λ _. excess (total_blocks sizes.now) (total_instructions sizes.now) ≡ None) (λ e. excess (total_blocks sizes.now) (total_instructions sizes.now) ≡ Some e) }
+    ensures excess { MatchResult result
+        (λ _. excess (total_blocks sizes.now) (total_instructions sizes.now) ≡ None)
+        (λ e. excess (total_blocks sizes.now) (total_instructions sizes.now) ≡ Some e) }
 {
     let limits = Limits::standard();
     let mut blocks = 0;
@@ -161,10 +164,12 @@ fn parts<R: Threads + Sync>(
     bases: &Bases,
 ) -> Result<Vec<Vec<Block>>, MemoryError>
     requires { 0 < jobs }
-    ensures { IfOk result (λ v. part_list v.items ≡ map (λ d. blocks_of (bases_of bases.now) d (erased_bodies (env_of env.now) d)) ids.now) }
+    ensures { IfOk result (λ v. part_list v.items ≡ map
+        (λ d. blocks_of (bases_of bases.now) d (erased_bodies (env_of env.now) d)) ids.now) }
 {
     let work = |id: GlobalId| -> Result<Vec<Block>, MemoryError>
-        ensures { IfOk result (λ v. blocks_view v.items ≡ blocks_of (bases_of bases.entry.now) id (erased_bodies (env_of env.entry.now) id)) }
+        ensures { IfOk result (λ v. blocks_view v.items ≡ blocks_of (bases_of bases.entry.now) id
+            (erased_bodies (env_of env.entry.now) id)) }
     { lower_one(alloc, env, id, bases) };
     grouped(rt, alloc, ids, jobs, &work)
 }
@@ -181,8 +186,8 @@ fn joined(alloc: Global, parts: Vec<Vec<Block>>) -> Result<Vec<Block>, MemoryErr
     Ok(blocks)
 }
 
-/// The program of an environment. Its definitions are worked on in groups of at most so many, one thread each, and the answer is the same
-/// for each number of them.
+/// The program of an environment. Its definitions are worked on in groups of at most so many,
+/// one thread each, and the answer is the same for each number of them.
 #[tactic(auto, using(crate::proofs::Joining::joinings))]
 pub fn lower_all<R: Threads + Sync>(
     rt: &R,

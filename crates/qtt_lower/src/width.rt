@@ -29,7 +29,8 @@ fn given(position: Position) -> usize
 
 /// How many instructions follow a branch with so many fields, before so many other branches.
 fn join(position: Position, fields: u32, others: &[FlatBranch]) -> usize
-    ensures { result ≡ join_width (position_of position) fields (field_counts (flat_branches others.now)) }
+    ensures { result ≡ join_width (position_of position) fields
+        (field_counts (flat_branches others.now)) }
 {
     match position {
         Position::Tail => 0,
@@ -82,7 +83,8 @@ fn all(sources: &[FlatTerm]) -> Result<usize, MemoryError>
 #[cycle(width)]
 #[tactic(auto, using(crate::proofs::Lists::widths_of_forms))]
 fn all_branches(position: Position, branches: &[FlatBranch]) -> Result<usize, MemoryError>
-    ensures { IfOk result (λ n. n ≡ branches_width (position_of position) (flat_branches branches.now)) }
+    ensures { IfOk result (λ n. n ≡ branches_width (position_of position)
+        (flat_branches branches.now)) }
 {
     let mut total = 0;
     for (k, branch) in branches.iter().enumerate() {
@@ -101,8 +103,11 @@ pub fn branch_places(
     first: usize,
     branches: &[FlatBranch],
 ) -> Result<(Vec<u32>, u32), MemoryError>
-    ensures places { IfOk result (λ r. r.0.items ≡ branches_places (position_of position) first (flat_branches branches.now)) }
-    ensures end { IfOk result (λ r. r.1 ≡ first + branches_width (position_of position) (flat_branches branches.now)) }
+    ensures places { IfOk result
+        (λ r. r.0.items ≡ branches_places (position_of position) first
+        (flat_branches branches.now)) }
+    ensures end { IfOk result
+        (λ r. r.1 ≡ first + branches_width (position_of position) (flat_branches branches.now)) }
 {
     let mut places = Vec::with_capacity(alloc, branches.len())?;
     let mut place = first;

@@ -6,7 +6,7 @@ use Rattle.qtt_code.specs.Instruction.{Position, Instr, Program}
 use Rattle.qtt_code.specs.Machine.{State, start, called}
 use Rattle.qtt_code.specs.Forward.{JumpsForward, AllJumpForward}
 use Rattle.qtt_machine.specs.declared.frames.Frames as code_frames
-use Rattle.qtt_machine.specs.Stacks.{Stands}
+use Rattle.qtt_machine.specs.View.{state}
 use Rattle.qtt_machine.specs.Runs.{Answers}
 use Rattle.qtt_machine.specs.Forward.{StateJumpsForward}
 use Rattle.qtt_machine.specs.Halting.{MayRun}
@@ -21,11 +21,11 @@ start_jumps_forward b = (one-instruction (Instr.enter Position.tail b) (λ q e. 
 pub call_jumps_forward : (f a : Value) → StateJumpsForward (called f a)
 call_jumps_forward f a = (one-instruction (Instr.call Position.tail) (λ q e. cc (e)), tt)
 
-pub may_begin : (P : Program) (s : State) (m : code_frames.Frames) → Stands m s → StateJumpsForward s → AllJumpForward P → Answers P s → MayRun P m
+pub may_begin : (P : Program) (s : State) (m : code_frames.Frames) → state m ≡ s → StateJumpsForward s →
+    AllJumpForward P → Answers P s → MayRun P m
 may_begin P s m at forward jumps answers =
     record {
-      stacked = at.stacked;
       jumps = jumps;
-      forward = subst StateJumpsForward (sym at.is) forward;
-      answers = subst (Answers P) (sym at.is) answers;
+      forward = subst StateJumpsForward (sym at) forward;
+      answers = subst (Answers P) (sym at) answers;
     }

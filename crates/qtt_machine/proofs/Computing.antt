@@ -24,11 +24,13 @@ number_is (Value.tape t) n e = absurd (none-some n (sym e))
 number_is Value.type n e = absurd (none-some n (sym e))
 
 -- ---- values that were taken
-two_computed : (p : Primitive) (xs : List Value) (s : State) (a b : Value) → slice_get xs 1 ≡ Some a → slice_get xs 0 ≡ Some b →
+two_computed : (p : Primitive) (xs : List Value) (s : State) (a b : Value) → slice_get xs 1 ≡ Some a →
+    slice_get xs 0 ≡ Some b →
     computes p (taken 2 Values.none xs) s ≡ applies p (literals (a ▹ b ▹ Values.none)) (drop 2 xs) s
 two_computed p [] s a b e f = absurd (none-some b f)
 two_computed p (y ∷ []) s a b e f = absurd (none-some a e)
-two_computed p (y ∷ x ∷ left) s a b e f = ap₂ (λ x y. applies p (literals (x ▹ y ▹ Values.none)) left s) (same_Some x a e) (same_Some y b f)
+two_computed p (y ∷ x ∷ left) s a b e f =
+    ap₂ (λ x y. applies p (literals (x ▹ y ▹ Values.none)) left s) (same_Some x a e) (same_Some y b f)
 
 -- ---- numbers
 on_numbers : (p : Primitive) → IsOnNumbers p → (arity p ≡ 2) × ((g : ℤ → ℤ → PrimAnswer) × (apply p ≡ of_numbers g))
@@ -61,7 +63,8 @@ module _ (p : Primitive) (g : ℤ → ℤ → PrimAnswer) (of : apply p ≡ of_n
   first-wants (Value.tape n) b e = refl
   first-wants Value.type b e = refl
 
-  second-wants : (n : ℤ) (b : Value) → None ≡ as_number b → applies p (literals (Value.literal (lit.Int n) ▹ b ▹ Values.none)) left s ≡ Did.stuck
+  second-wants : (n : ℤ) (b : Value) → None ≡ as_number b →
+      applies p (literals (Value.literal (lit.Int n) ▹ b ▹ Values.none)) left s ≡ Did.stuck
   second-wants n (Value.literal (lit.Int m)) e = absurd (none-some m e)
   second-wants n (Value.literal (lit.Text t)) e = ill (lit.Int n ∷ lit.Text t ∷ []) refl
   second-wants n (Value.con c vs) e = refl
@@ -70,19 +73,22 @@ module _ (p : Primitive) (g : ℤ → ℤ → PrimAnswer) (of : apply p ≡ of_n
   second-wants n (Value.tape m) e = refl
   second-wants n Value.type e = refl
 
-module _ (p : Primitive) (on : IsOnNumbers p) (xs : List Value) (s : State) (a b : Value) (first : slice_get xs 1 ≡ Some a) (second : slice_get xs 0 ≡ Some b) where
+module _ (p : Primitive) (on : IsOnNumbers p) (xs : List Value) (s : State) (a b : Value)
+    (first : slice_get xs 1 ≡ Some a) (second : slice_get xs 0 ≡ Some b) where
   in-two : computes p (taken (arity p) Values.none xs) s ≡ applies p (literals (a ▹ b ▹ Values.none)) (drop 2 xs) s
   in-two = ap (λ n. computes p (taken n Values.none xs) s) (on_numbers p on).0 ∙ two_computed p xs s a b first second
 
   first_is_number : ¬ (computes p (taken (arity p) Values.none xs) s ≡ Did.stuck) → None ≡ as_number a → ⊥
   first_is_number h e = h (in-two ∙ first-wants p (on_numbers p on).1.0 (on_numbers p on).1.1 (drop 2 xs) s a b e)
 
-  pub second_is_number : (n : ℤ) → ¬ (computes p (taken (arity p) Values.none xs) s ≡ Did.stuck) → Some n ≡ as_number a → None ≡ as_number b → ⊥
+  pub second_is_number : (n : ℤ) → ¬ (computes p (taken (arity p) Values.none xs) s ≡ Did.stuck) →
+      Some n ≡ as_number a → None ≡ as_number b → ⊥
   second_is_number n h i e =
       h (in-two ∙ ap (λ v. applies p (literals (v ▹ b ▹ Values.none)) (drop 2 xs) s) (number_is a n i)
       ∙ second-wants p (on_numbers p on).1.0 (on_numbers p on).1.1 (drop 2 xs) s n b e)
 
-pub first_wanted : (p : Primitive) → IsOnNumbers p → (xs : List Value) (s : State) (a : Value) → slice_get xs 1 ≡ Some a →
+pub first_wanted : (p : Primitive) → IsOnNumbers p → (xs : List Value) (s : State) (a : Value) →
+    slice_get xs 1 ≡ Some a →
     ¬ (computes p (taken (arity p) Values.none xs) s ≡ Did.stuck) → None ≡ as_number a → ⊥
 first_wanted p on [] s a e h n = none-some a e
 first_wanted p on (y ∷ []) s a e h n = none-some a e

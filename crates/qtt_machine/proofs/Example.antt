@@ -30,7 +30,8 @@ is-closed v a =
     cc
 
 -- a call of what the program gave back
-pub call_answers : (P : Program) (s : State) (v a : Value) → P ≡ closing → s ≡ start 0 → a ≡ number 3 → Advances P 5 s (Halt.done v) → Answers P (called v a)
+pub call_answers : (P : Program) (s : State) (v a : Value) → P ≡ closing → s ≡ start 0 → a ≡ number 3 →
+    Advances P 5 s (Halt.done v) → Answers P (called v a)
 call_answers P s v a p q e advanced =
     let x = subst (λ s. Advances closing 5 s (Halt.done v)) q (subst (λ P. Advances P 5 s (Halt.done v)) p advanced) in
     rw (p, e, is-closed v x) (ended_answers closing 2 (called closed (number 3)) (number 4) call-ends)

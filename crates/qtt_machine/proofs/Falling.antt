@@ -38,7 +38,8 @@ module _ (s : State) (F : StateJumpsForward s) (W : IsWithin s) where
   falls-to : (t u : State) → Did.goes t ≡ Did.goes u → Falls s t → Falls s u
   falls-to t u e x = subst (Falls s) (ap (λ d. gone d t) e) x
 
-  step-falls : length s.frame.code - suc s.frame.place + waiting_left s.waiting < length s.frame.code - s.frame.place + waiting_left s.waiting
+  step-falls : length s.frame.code - suc s.frame.place + waiting_left s.waiting < length s.frame.code -
+      s.frame.place + waiting_left s.waiting
   step-falls = let w = W in omega (arith, w)
 
   pushes-fall : (o : Option Value) (t : State) → pushes o s ≡ Did.goes t → Falls s t
@@ -49,7 +50,8 @@ module _ (s : State) (F : StateJumpsForward s) (W : IsWithin s) where
   makes-fall made None t e = absurd (cc (e))
   makes-fall made (Some v) t e = falls-to _ t e (record { less = step-falls; forward = F })
 
-  enters-not : (o : Position) (B : Option Block) (vs ls : List Value) (s t : State) → enters o B vs ls s ≡ Did.goes t → ⊥
+  enters-not : (o : Position) (B : Option Block) (vs ls : List Value) (s t : State) →
+      enters o B vs ls s ≡ Did.goes t → ⊥
   enters-not o None vs ls s t e = cc (e)
   enters-not o (Some B) vs ls s t e = cc (e)
 
@@ -58,7 +60,8 @@ module _ (s : State) (F : StateJumpsForward s) (W : IsWithin s) where
   calls-not P o (a ∷ []) s t e = cc (e)
   calls-not P o (a ∷ Value.literal l ∷ left) s t e = cc (e)
   calls-not P o (a ∷ Value.con c vs ∷ left) s t e = cc (e)
-  calls-not P o (a ∷ Value.closure b vs ∷ left) s t e = enters-not o (slice_get P b) (listed vs) (a ∷ []) (in_frame (left_with left s.frame) s) t e
+  calls-not P o (a ∷ Value.closure b vs ∷ left) s t e =
+      enters-not o (slice_get P b) (listed vs) (a ∷ []) (in_frame (left_with left s.frame) s) t e
   calls-not P o (a ∷ Value.action k vs ∷ left) s t e = cc (e)
   calls-not P o (a ∷ Value.tape n ∷ left) s t e = cc (e)
   calls-not P o (a ∷ Value.type ∷ left) s t e = cc (e)
@@ -67,7 +70,8 @@ module _ (s : State) (F : StateJumpsForward s) (W : IsWithin s) where
   forces-not P o [] s t e = cc (e)
   forces-not P o (Value.literal l ∷ left) s t e = cc (e)
   forces-not P o (Value.con c vs ∷ left) s t e = cc (e)
-  forces-not P o (Value.closure b vs ∷ left) s t e = enters-not o (slice_get P b) (listed vs) [] (in_frame (left_with left s.frame) s) t e
+  forces-not P o (Value.closure b vs ∷ left) s t e =
+      enters-not o (slice_get P b) (listed vs) [] (in_frame (left_with left s.frame) s) t e
   forces-not P o (Value.action k vs ∷ left) s t e = cc (e)
   forces-not P o (Value.tape n ∷ left) s t e = cc (e)
   forces-not P o (Value.type ∷ left) s t e = cc (e)
@@ -78,7 +82,8 @@ module _ (s : State) (F : StateJumpsForward s) (W : IsWithin s) where
   answers-not answer.DivisionByZero left s t e = cc (e)
   answers-not answer.IllTyped left s t e = cc (e)
 
-  applies-not : (p : Primitive) (ls : Option (List Lit)) (left : List Value) (s t : State) → applies p ls left s ≡ Did.goes t → ⊥
+  applies-not : (p : Primitive) (ls : Option (List Lit)) (left : List Value) (s t : State) →
+      applies p ls left s ≡ Did.goes t → ⊥
   applies-not p None left s t e = cc (e)
   applies-not p (Some ls) left s t e = answers-not (apply p ls) left s t e
 
@@ -99,7 +104,8 @@ module _ (s : State) (F : StateJumpsForward s) (W : IsWithin s) where
   switches-not qs (Value.tape n ∷ left) s t e = cc (e)
   switches-not qs (Value.type ∷ left) s t e = cc (e)
 
-  given-falls : (v : Value) (fs : List Frame) → FramesJumpForward fs → waiting_left fs ≤ instructions_left s → (t : State) → returns_to v fs ≡ Did.goes t → Falls s t
+  given-falls : (v : Value) (fs : List Frame) → FramesJumpForward fs → waiting_left fs ≤ instructions_left s →
+      (t : State) → returns_to v fs ≡ Did.goes t → Falls s t
   given-falls v [] G l t e = absurd (cc (e))
   given-falls v (f ∷ fs) G l t e = falls-to _ t e (record { less = omega (arith, l); forward = G })
 
@@ -107,7 +113,8 @@ module _ (s : State) (F : StateJumpsForward s) (W : IsWithin s) where
   returns-fall [] t e = absurd (cc (e))
   returns-fall (v ∷ xs) t e = given-falls v s.waiting F.1 (omega arith) t e
 
-  does-falls : (P : Program) (i : Instr) (t : State) → slice_get s.frame.code s.frame.place ≡ Some i → does P (Some i) s ≡ Did.goes t → Falls s t
+  does-falls : (P : Program) (i : Instr) (t : State) → slice_get s.frame.code s.frame.place ≡ Some i →
+      does P (Some i) s ≡ Did.goes t → Falls s t
   does-falls P (Instr.local k) t at e = pushes-fall (slice_get s.frame.locals k) t e
   does-falls P (Instr.captured k) t at e = pushes-fall (slice_get s.frame.captured k) t e
   does-falls P (Instr.literal l) t at e = pushes-fall (Some (Value.literal l)) t e
@@ -124,11 +131,16 @@ module _ (s : State) (F : StateJumpsForward s) (W : IsWithin s) where
   does-falls P (Instr.jump q) t at e =
       let l = F.0 s.frame.place q at in
       let w = W in
-      falls-to _ t e (record { less = let x : length s.frame.code - q + waiting_left s.waiting < length s.frame.code - s.frame.place + waiting_left s.waiting = omega (arith, l, w) in x; forward = F })
+      falls-to _ t e (record {
+        less = let x : length s.frame.code - q + waiting_left s.waiting < length
+            s.frame.code - s.frame.place + waiting_left s.waiting = omega (arith, l, w) in x;
+        forward = F;
+      })
   does-falls P Instr.return t at e = returns-fall s.frame.pushed t e
   does-falls P Instr.trap t at e = absurd (cc (e))
 
-  at-falls : (P : Program) (o : Option Instr) (t : State) → slice_get s.frame.code s.frame.place ≡ o → does P o s ≡ Did.goes t → Falls s t
+  at-falls : (P : Program) (o : Option Instr) (t : State) → slice_get s.frame.code s.frame.place ≡ o →
+      does P o s ≡ Did.goes t → Falls s t
   at-falls P None t at e = absurd (cc (e))
   at-falls P (Some i) t at e = does-falls P i t at e
 
@@ -156,53 +168,64 @@ module _ (P : Program) (J : AllJumpForward P) where
   leads-to : (t u : State) → Did.ticks t ≡ Did.ticks u → StateJumpsForward t → StateJumpsForward u
   leads-to t u e x = subst StateJumpsForward (ap (λ d. gone d t) e) x
 
-  waiting-leads : (o : Position) (f : Frame) (fs : List Frame) → FramesJumpForward (f ∷ fs) → FramesJumpForward (suspended o f fs)
+  waiting-leads : (o : Position) (f : Frame) (fs : List Frame) → FramesJumpForward (f ∷ fs) →
+      FramesJumpForward (suspended o f fs)
   waiting-leads Position.inner f fs F = F
   waiting-leads Position.tail f fs F = F.1
 
-  enters-lead : (o : Position) (b : ℕ) (B : Option Block) (vs ls : List Value) (s t : State) → slice_get P b ≡ B → StateJumpsForward s →
+  enters-lead : (o : Position) (b : ℕ) (B : Option Block) (vs ls : List Value) (s t : State) → slice_get P b ≡ B →
+      StateJumpsForward s →
       enters o B vs ls s ≡ Did.ticks t → StateJumpsForward t
   enters-lead o b None vs ls s t at F e = absurd (cc (e))
   enters-lead o b (Some B) vs ls s t at F e = leads-to _ t e (J b B at, waiting-leads o s.frame s.waiting F)
 
-  calls-lead : (o : Position) (xs : List Value) (s t : State) → StateJumpsForward s → calls P o xs s ≡ Did.ticks t → StateJumpsForward t
+  calls-lead : (o : Position) (xs : List Value) (s t : State) → StateJumpsForward s →
+      calls P o xs s ≡ Did.ticks t → StateJumpsForward t
   calls-lead o [] s t F e = absurd (cc (e))
   calls-lead o (a ∷ []) s t F e = absurd (cc (e))
   calls-lead o (a ∷ Value.literal l ∷ left) s t F e = absurd (cc (e))
   calls-lead o (a ∷ Value.con c vs ∷ left) s t F e = absurd (cc (e))
-  calls-lead o (a ∷ Value.closure b vs ∷ left) s t F e = enters-lead o b (slice_get P b) (listed vs) (a ∷ []) (in_frame (left_with left s.frame) s) t refl F e
+  calls-lead o (a ∷ Value.closure b vs ∷ left) s t F e =
+      enters-lead o b (slice_get P b) (listed vs) (a ∷ []) (in_frame (left_with left s.frame) s) t refl F e
   calls-lead o (a ∷ Value.action k vs ∷ left) s t F e = absurd (cc (e))
   calls-lead o (a ∷ Value.tape n ∷ left) s t F e = absurd (cc (e))
   calls-lead o (a ∷ Value.type ∷ left) s t F e = absurd (cc (e))
 
-  forces-lead : (o : Position) (xs : List Value) (s t : State) → StateJumpsForward s → forces P o xs s ≡ Did.ticks t → StateJumpsForward t
+  forces-lead : (o : Position) (xs : List Value) (s t : State) → StateJumpsForward s →
+      forces P o xs s ≡ Did.ticks t → StateJumpsForward t
   forces-lead o [] s t F e = absurd (cc (e))
   forces-lead o (Value.literal l ∷ left) s t F e = absurd (cc (e))
   forces-lead o (Value.con c vs ∷ left) s t F e = absurd (cc (e))
-  forces-lead o (Value.closure b vs ∷ left) s t F e = enters-lead o b (slice_get P b) (listed vs) [] (in_frame (left_with left s.frame) s) t refl F e
+  forces-lead o (Value.closure b vs ∷ left) s t F e =
+      enters-lead o b (slice_get P b) (listed vs) [] (in_frame (left_with left s.frame) s) t refl F e
   forces-lead o (Value.action k vs ∷ left) s t F e = absurd (cc (e))
   forces-lead o (Value.tape n ∷ left) s t F e = absurd (cc (e))
   forces-lead o (Value.type ∷ left) s t F e = absurd (cc (e))
 
-  answers-lead : (a : PrimAnswer) (left : List Value) (s t : State) → StateJumpsForward s → answers a left s ≡ Did.ticks t → StateJumpsForward t
+  answers-lead : (a : PrimAnswer) (left : List Value) (s t : State) → StateJumpsForward s →
+      answers a left s ≡ Did.ticks t → StateJumpsForward t
   answers-lead (answer.Value l) left s t F e = leads-to _ t e F
   answers-lead (answer.Truth b) left s t F e = leads-to _ t e F
   answers-lead answer.DivisionByZero left s t F e = absurd (cc (e))
   answers-lead answer.IllTyped left s t F e = absurd (cc (e))
 
-  applies-lead : (p : Primitive) (ls : Option (List Lit)) (left : List Value) (s t : State) → StateJumpsForward s → applies p ls left s ≡ Did.ticks t → StateJumpsForward t
+  applies-lead : (p : Primitive) (ls : Option (List Lit)) (left : List Value) (s t : State) →
+      StateJumpsForward s → applies p ls left s ≡ Did.ticks t → StateJumpsForward t
   applies-lead p None left s t F e = absurd (cc (e))
   applies-lead p (Some ls) left s t F e = answers-lead (apply p ls) left s t F e
 
-  computes-lead : (p : Primitive) (o : Option Taken) (s t : State) → StateJumpsForward s → computes p o s ≡ Did.ticks t → StateJumpsForward t
+  computes-lead : (p : Primitive) (o : Option Taken) (s t : State) → StateJumpsForward s →
+      computes p o s ≡ Did.ticks t → StateJumpsForward t
   computes-lead p None s t F e = absurd (cc (e))
   computes-lead p (Some v) s t F e = applies-lead p (literals v.values) v.left s t F e
 
-  branches-lead : (o : Option ℕ) (vs : Values) (left : List Value) (s t : State) → StateJumpsForward s → branches o vs left s ≡ Did.ticks t → StateJumpsForward t
+  branches-lead : (o : Option ℕ) (vs : Values) (left : List Value) (s t : State) → StateJumpsForward s →
+      branches o vs left s ≡ Did.ticks t → StateJumpsForward t
   branches-lead None vs left s t F e = absurd (cc (e))
   branches-lead (Some q) vs left s t F e = leads-to _ t e F
 
-  switches-lead : (qs : List ℕ) (xs : List Value) (s t : State) → StateJumpsForward s → switches qs xs s ≡ Did.ticks t → StateJumpsForward t
+  switches-lead : (qs : List ℕ) (xs : List Value) (s t : State) → StateJumpsForward s →
+      switches qs xs s ≡ Did.ticks t → StateJumpsForward t
   switches-lead qs [] s t F e = absurd (cc (e))
   switches-lead qs (Value.literal l ∷ left) s t F e = absurd (cc (e))
   switches-lead qs (Value.con c vs ∷ left) s t F e = branches-lead (slice_get qs c) vs left s t F e
@@ -217,9 +240,12 @@ module _ (P : Program) (J : AllJumpForward P) where
   does-leads (Some (Instr.captured k)) s t F e = absurd (pushes_no_tick (slice_get s.frame.captured k) s t e)
   does-leads (Some (Instr.literal l)) s t F e = absurd (pushes_no_tick (Some (Value.literal l)) s t e)
   does-leads (Some Instr.type) s t F e = absurd (pushes_no_tick (Some Value.type) s t e)
-  does-leads (Some (Instr.closure b k)) s t F e = absurd (makes_no_tick (Value.closure b) (taken k Values.none s.frame.pushed) s t e)
-  does-leads (Some (Instr.con c k)) s t F e = absurd (makes_no_tick (Value.con c) (taken k Values.none s.frame.pushed) s t e)
-  does-leads (Some (Instr.action a k)) s t F e = absurd (makes_no_tick (Value.action a) (taken k Values.none s.frame.pushed) s t e)
+  does-leads (Some (Instr.closure b k)) s t F e =
+      absurd (makes_no_tick (Value.closure b) (taken k Values.none s.frame.pushed) s t e)
+  does-leads (Some (Instr.con c k)) s t F e =
+      absurd (makes_no_tick (Value.con c) (taken k Values.none s.frame.pushed) s t e)
+  does-leads (Some (Instr.action a k)) s t F e =
+      absurd (makes_no_tick (Value.action a) (taken k Values.none s.frame.pushed) s t e)
   does-leads (Some (Instr.call o)) s t F e = calls-lead o s.frame.pushed s t F e
   does-leads (Some (Instr.force o)) s t F e = forces-lead o s.frame.pushed s t F e
   does-leads (Some (Instr.enter o b)) s t F e = enters-lead o b (slice_get P b) [] [] s t refl F e

@@ -22,15 +22,24 @@ module _ (P : Program) where
   goes-on-before Reaches.here b h = absurd (omega (arith, h))
   goes-on-before (Reaches.goes d w) b h = let x = goes-on-before w b h in (x.0, (Reaches.goes d x.1.0, x.1.1))
   goes-on-before (Reaches.ticks {s = s} {t = t} d w) zero h = (s, (Reaches.here, (t, d)))
-  goes-on-before (Reaches.ticks d w) (suc b) h = let x = goes-on-before w b (omega (arith, h)) in (x.0, (Reaches.ticks d x.1.0, x.1.1))
+  goes-on-before (Reaches.ticks d w) (suc b) h = let x =
+      goes-on-before w b (omega (arith, h)) in (x.0, (Reaches.ticks d x.1.0, x.1.1))
 
   spent-before : (n b : ℕ) (s r : State) → Reaches P n s r → b < n → Advances P b s Halt.spent
   spent-before n b s r w h = let x = goes-on-before w b h in ticks_spent P b s x.0 x.1.1.0 x.1.0 x.1.1.1
 
   pub ended_answers : (n : ℕ) (s : State) (v : Value) → EndsAfter P n s v → Answers P s
   ended_answers n s v e b =
-      elim (below-or-not b n) [ inl h ↦ (Halt.spent, spent-before n b s e.0 e.1 h) | inr h ↦ (Halt.done v, ends_done P b n s e.0 v e.1 h e.2) ]
+      elim (below-or-not b n) [
+        | inl h ↦ (Halt.spent, spent-before n b s e.0 e.1 h)
+        | inr h ↦
+            (Halt.done v, ends_done P b n s e.0 v e.1 h e.2)
+      ]
 
   pub trapped_answers : (n : ℕ) (s : State) (k : Cause) → TrapsAfter P n s k → Answers P s
   trapped_answers n s k e b =
-      elim (below-or-not b n) [ inl h ↦ (Halt.spent, spent-before n b s e.0 e.1 h) | inr h ↦ (Halt.trapped k, traps_trapped P b n s e.0 k e.1 h e.2) ]
+      elim (below-or-not b n) [
+        | inl h ↦ (Halt.spent, spent-before n b s e.0 e.1 h)
+        | inr h ↦
+            (Halt.trapped k, traps_trapped P b n s e.0 k e.1 h e.2)
+      ]

@@ -10,3 +10,4 @@ pub mod GoingOn
 pub mod Arriving
 pub mod Beginning
 pub mod Example
+pub mod Levels

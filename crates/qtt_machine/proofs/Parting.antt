@@ -6,7 +6,7 @@ use Rattle.qtt_code.specs.Value.{Value, Values, listed, side_by_side}
 use Rattle.qtt_value.specs.declared.val.Val.{Val, the_lemmas}
 use Rattle.qtt_value.specs.declared.val.Val.TheVariants as code
 use Rattle.qtt_value.specs.View.{value, values}
-use Rattle.qtt_value.proofs.Levels.{levels, value_of_con}
+use Rattle.qtt_machine.proofs.Levels.{levels, value_of_con}
 
 pub listed_side : (vs : List Value) → listed (side_by_side vs) ≡ vs
 listed_side [] = refl

@@ -31,16 +31,25 @@ module _ (P : Program) where
   then_ticks (Reaches.goes d w) e = Reaches.goes d (then_ticks w e)
   then_ticks (Reaches.ticks d w) e = Reaches.ticks d (then_ticks w e)
 
-  after-goes : (b : ℕ) (h : Halt) {n : ℕ} {s r : State} (w : Reaches P n s r) (t : State) → instruction P s ≡ Did.goes t → n ≤ b → Stops b n (instruction P r) h →
+  after-goes : (b : ℕ) (h : Halt) {n : ℕ} {s r : State} (w : Reaches P n s r) (t : State) →
+      instruction P s ≡ Did.goes t → n ≤ b → Stops b n (instruction P r) h →
       Advances P b t h
   after-goes b h Reaches.here t e p st = absurd (subst (λ d. Stops b 0 d h) e st)
   after-goes b h (Reaches.goes {n = n} {t = u} {r = r} d w) t e p st =
-      record { made = n; last = r; way = subst (λ x. Reaches P n x r) (ap (λ y. state_of y u) (sym d ∙ e)) w; within = p; stops = st }
+      record {
+        made = n;
+        last = r;
+        way = subst (λ x. Reaches P n x r) (ap (λ y. state_of y u) (sym d ∙ e)) w;
+        within = p;
+        stops = st;
+      }
   after-goes b h (Reaches.ticks d w) t e p st = absurd (cc (d, e))
 
-  after-ticks : (b : ℕ) (h : Halt) {n : ℕ} {s r : State} (w : Reaches P n s r) (t : State) → instruction P s ≡ Did.ticks t → n ≤ suc b →
+  after-ticks : (b : ℕ) (h : Halt) {n : ℕ} {s r : State} (w : Reaches P n s r) (t : State) →
+      instruction P s ≡ Did.ticks t → n ≤ suc b →
       Stops (suc b) n (instruction P r) h → Advances P b t h
-  after-ticks b h Reaches.here t e p st = let z = subst (λ d. Stops (suc b) 0 d h) e st in absurd (let q = z.1 in omega (arith, q))
+  after-ticks b h Reaches.here t e p st = let z =
+      subst (λ d. Stops (suc b) 0 d h) e st in absurd (let q = z.1 in omega (arith, q))
   after-ticks b h (Reaches.goes d w) t e p st = absurd (cc (d, e))
   after-ticks b h (Reaches.ticks {n = n} {t = u} {r = r} d w) t e p st =
       record {
@@ -55,9 +64,11 @@ module _ (P : Program) where
   goes_answers s t e A b = let a = (A b).1 in ((A b).0, after-goes b (A b).0 a.way t e a.within a.stops)
 
   pub ticks_answers : (s t : State) → instruction P s ≡ Did.ticks t → Answers P s → Answers P t
-  ticks_answers s t e A b = let a = (A (suc b)).1 in ((A (suc b)).0, after-ticks b (A (suc b)).0 a.way t e a.within a.stops)
+  ticks_answers s t e A b = let a =
+      (A (suc b)).1 in ((A (suc b)).0, after-ticks b (A (suc b)).0 a.way t e a.within a.stops)
 
-  not-stuck : (b : ℕ) (h : Halt) {n : ℕ} {s r : State} (w : Reaches P n s r) → Stops b n (instruction P r) h → instruction P s ≡ Did.stuck → ⊥
+  not-stuck : (b : ℕ) (h : Halt) {n : ℕ} {s r : State} (w : Reaches P n s r) → Stops b n (instruction P r) h →
+      instruction P s ≡ Did.stuck → ⊥
   not-stuck b h Reaches.here st e = subst (λ d. Stops b 0 d h) e st
   not-stuck b h (Reaches.goes d w) st e = cc (d, e)
   not-stuck b h (Reaches.ticks d w) st e = cc (d, e)
@@ -66,14 +77,41 @@ module _ (P : Program) where
   answers_unstuck s A e = let a = (A 0).1 in not-stuck 0 (A 0).0 a.way a.stops e
 
   -- ---- where a run stops
-  abbrev pub ends_done : (b n : ℕ) (s r : State) (v : Value) → Reaches P n s r → n ≤ b → instruction P r ≡ Did.ends v → Advances P b s (Halt.done v)
-  ends_done b n s r v w p e = record { made = n; last = r; way = w; within = p; stops = subst (λ d. Stops b n d (Halt.done v)) (sym e) refl }
+  abbrev pub ends_done : (b n : ℕ) (s r : State) (v : Value) → Reaches P n s r → n ≤ b →
+      instruction P r ≡ Did.ends v → Advances P b s (Halt.done v)
+  ends_done b n s r v w p e =
+      record {
+        made = n;
+        last = r;
+        way = w;
+        within = p;
+        stops = subst (λ d. Stops b n d (Halt.done v))
+            (sym e) refl;
+      }
 
-  abbrev pub traps_trapped : (b n : ℕ) (s r : State) (k : Cause) → Reaches P n s r → n ≤ b → instruction P r ≡ Did.traps k → Advances P b s (Halt.trapped k)
-  traps_trapped b n s r k w p e = record { made = n; last = r; way = w; within = p; stops = subst (λ d. Stops b n d (Halt.trapped k)) (sym e) refl }
+  abbrev pub traps_trapped : (b n : ℕ) (s r : State) (k : Cause) → Reaches P n s r → n ≤ b →
+      instruction P r ≡ Did.traps k → Advances P b s (Halt.trapped k)
+  traps_trapped b n s r k w p e =
+      record {
+        made = n;
+        last = r;
+        way = w;
+        within = p;
+        stops = subst (λ d. Stops b n d (Halt.trapped k))
+            (sym e) refl;
+      }
 
-  abbrev pub ticks_spent : (b : ℕ) (s r t : State) → Reaches P b s r → instruction P r ≡ Did.ticks t → Advances P b s Halt.spent
-  ticks_spent b s r t w e = record { made = b; last = r; way = w; within = omega arith; stops = subst (λ d. Stops b b d Halt.spent) (sym e) (refl, refl) }
+  abbrev pub ticks_spent : (b : ℕ) (s r t : State) → Reaches P b s r → instruction P r ≡ Did.ticks t →
+      Advances P b s Halt.spent
+  ticks_spent b s r t w e =
+      record {
+        made = b;
+        last = r;
+        way = w;
+        within = omega arith;
+        stops = subst (λ d. Stops b b d Halt.spent)
+            (sym e) (refl, refl);
+      }
 
 -- ---- runs without a tick behind others
 module _ (P : Program) where

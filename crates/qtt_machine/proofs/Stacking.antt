@@ -2,7 +2,7 @@
 use Rattle.std.proofs.Common.{◌≡◌, ℕ, suc, ◌+◌, ◌-◌, ◌<◌, ◌≤◌, List, ◌∷◌, Some, length, take, drop, get_or, reverse, sym, ◌∙◌, ap, arith, length-drop}
 use Rattle.std.specs.List.{slice_get}
 use Rattle.std.proofs.Math.ListN.{get_or-map}
-use Rattle.std.proofs.lemmas.List.{take-take, length-take-le, take-map, drop-take, length-map, length-reverse, get_or-reverse, get_or-drop}
+use Rattle.std.proofs.lemmas.List.{take-take, take-map, drop-take, length-map, length-reverse, get_or-reverse, get_or-drop}
 use Rattle.std.proofs.lemmas.Option.{slice_get-get_or}
 use Rattle.qtt_code.specs.Machine.{in_frame, left_with, onward, with_locals}
 use Rattle.qtt_value.specs.declared.val.Val.{Val}
@@ -12,28 +12,29 @@ use Rattle.qtt_machine.specs.View.{frame, frames, state_over}
 use Rattle.qtt_machine.specs.Stacks.{InOrder}
 use Rattle.qtt_machine.proofs.Taking.{own-length, forgotten_top}
 
-module _ (L S T : List Val) (f : code_frame.Frame) (fs : List code_frame.Frame) (k n : ℕ) (order : InOrder (f ∷ fs) (length L) (length S))
+module _ (L S T : List Val) (f : code_frame.Frame) (fs : List code_frame.Frame) (k n : ℕ)
+    (order : InOrder (f ∷ fs) (length L) (length S))
     (h : k ≤ length (reverse (values (drop f.pushed S)))) (t : T ≡ take (n - k) S) (e : n ≡ length S) where
   is_taken : T ≡ take (length S - k) S
   is_taken = t ∙ ap (λ j. take (j - k) S) e
 
   base : f.pushed ≤ length S - k
-  base = let a = own-length S f.pushed in let o = order.1 in omega (arith, a, h, o)
+  base = let a = own-length S f.pushed in let o = order.0.1 in omega (arith, a, h, o)
 
-  pub forgotten : state_over L T f fs ≡ in_frame (left_with (drop k (reverse (values (drop f.pushed S)))) (frame L S f)) (state_over L S f fs)
+  pub forgotten : state_over L T f fs ≡ in_frame
+      (left_with (drop k (reverse (values (drop f.pushed S)))) (frame L S f)) (state_over L S f fs)
   forgotten =
       ap (λ U. state_over L U f fs) is_taken
-      ∙ ap (λ vs. in_frame (left_with vs (frame L S f)) (state_over L (take (length S - k) S) f fs)) (forgotten_top S f.pushed k h order.1)
-      ∙ ap (λ U. record { frame = left_with (drop k (reverse (values (drop f.pushed S)))) (frame L S f); waiting = frames (take f.locals L) U fs }) (take-take f.pushed (length S - k) S base)
-
-  pub forgotten_order : InOrder (f ∷ fs) (length L) (length T)
-  forgotten_order =
-      let l : length T ≡ length S - k = ap length is_taken ∙ length-take-le (length S - k) S (omega arith) in
-      let b = base in
-      (order.0, omega (arith, l, b), order.2)
+      ∙ ap (λ vs. in_frame (left_with vs (frame L S f)) (state_over L (take (length S - k) S) f fs))
+      (forgotten_top S f.pushed k h order.0.1)
+      ∙ ap (λ U. record {
+        frame = left_with (drop k (reverse (values (drop f.pushed S)))) (frame L S f);
+        waiting = frames (take f.locals L) U fs;
+      }) (take-take f.pushed (length S - k) S base)
 
 -- ---- locals that were dropped
-module _ (L S M : List Val) (f : code_frame.Frame) (fs : List code_frame.Frame) (k m p : ℕ) (order : InOrder (f ∷ fs) (length L) (length S))
+module _ (L S M : List Val) (f : code_frame.Frame) (fs : List code_frame.Frame) (k m p : ℕ)
+    (order : InOrder (f ∷ fs) (length L) (length S))
     (t : M ≡ take (f.locals + m) L) (e : m ≡ (length L - f.locals) - k) (q : p ≡ suc f.place) where
   own-locals : length (values (drop f.locals L)) - k ≡ m
   own-locals = let a = length-map (drop f.locals L) value in let b = length-drop f.locals L in omega (arith, a, b, e)
@@ -50,23 +51,20 @@ module _ (L S M : List Val) (f : code_frame.Frame) (fs : List code_frame.Frame) 
 
   pub locals_dropped :
       state_over M S (record f { place = p }) fs
-      ≡ in_frame (onward (with_locals (take (length (values (drop f.locals L)) - k) (values (drop f.locals L))) (frame L S f))) (state_over L S f fs)
+      ≡ in_frame (onward (with_locals (take (length (values (drop f.locals L)) - k) (values (drop f.locals L)))
+      (frame L S f))) (state_over L S f fs)
   locals_dropped =
       ap (λ j. state_over M S (record f { place = j }) fs) q
       ∙ ap (λ vs. in_frame (onward (with_locals vs (frame L S f))) (state_over M S f fs)) kept
       ∙ ap (λ U. record {
-        frame = onward (with_locals (take (length (values (drop f.locals L)) - k) (values (drop f.locals L))) (frame L S f));
+        frame = onward (with_locals (take (length (values (drop f.locals L)) - k) (values (drop f.locals L)))
+            (frame L S f));
         waiting = frames U (take f.pushed S) fs;
       }) below
 
-  pub dropped_order : InOrder (record f { place = p } ∷ fs) (length M) (length S)
-  dropped_order =
-      let l = order.0 in
-      let n : length M ≡ f.locals + m = ap length t ∙ length-take-le (f.locals + m) L (omega (arith, l, e)) in
-      (omega (arith, n), order.1, order.2)
-
 -- ---- the newest values
-pub newest_is : (S : List Val) (b k n : ℕ) (v : Val) → b ≤ length S → k < length (reverse (values (drop b S))) → n ≡ length S → v ≡ get_or S (n - 1 - k) v →
+pub newest_is : (S : List Val) (b k n : ℕ) (v : Val) → b ≤ length S → k < length (reverse (values (drop b S))) →
+    n ≡ length S → v ≡ get_or S (n - 1 - k) v →
     slice_get (reverse (values (drop b S))) k ≡ Some (value v)
 newest_is S b k c v h p q e =
     let n = length-reverse (values (drop b S)) in

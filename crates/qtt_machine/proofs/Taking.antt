@@ -22,7 +22,8 @@ put-reverse (y ∷ ys) =
     ∙ put-append (reverse ys) (y ∷ []) Values.none
     ∙ ap (λ vs. y ▹ vs) (put-reverse ys)
 
-taken_front : (zs left : List Value) (vs : Values) → taken (length zs) vs (zs ++ left) ≡ Some (record { values = put zs vs; left = left })
+taken_front : (zs left : List Value) (vs : Values) →
+    taken (length zs) vs (zs ++ left) ≡ Some (record { values = put zs vs; left = left })
 taken_front [] left vs = refl
 taken_front (z ∷ zs) left vs = taken_front zs left (z ▹ vs)
 
@@ -36,7 +37,8 @@ module _ (ys : List Value) (k : ℕ) (h : k ≤ length ys) where
 
   split : reverse ys ≡ reverse rest ++ reverse front
   unfolding front rest
-  split = ap reverse (sym (take-append-drop (length ys - k) ys)) ∙ reverse-append (take (length ys - k) ys) (drop (length ys - k) ys)
+  split = ap reverse (sym (take-append-drop (length ys - k) ys)) ∙ reverse-append (take (length ys - k) ys)
+      (drop (length ys - k) ys)
 
   rest-length : length (reverse rest) ≡ k
   unfolding rest
@@ -46,7 +48,8 @@ module _ (ys : List Value) (k : ℕ) (h : k ≤ length ys) where
   unfolding front
   left_behind = ap (drop k) split ∙ drop_at (reverse rest) (reverse front) k rest-length
 
-  pub taken_last : taken k Values.none (reverse ys) ≡ Some (record { values = side_by_side (drop (length ys - k) ys); left = drop k (reverse ys) })
+  pub taken_last : taken k Values.none (reverse ys) ≡ Some
+      (record { values = side_by_side (drop (length ys - k) ys); left = drop k (reverse ys) })
   unfolding front rest
   taken_last =
       ap (taken k Values.none) split
@@ -64,7 +67,11 @@ module _ (S : List Val) (b k : ℕ) (h : k ≤ length (reverse (values (drop b S
   own = let a = own-length S b in omega (arith, a, h)
 
   pub taken_top : b ≤ length S →
-      taken k Values.none (reverse (values (drop b S))) ≡ Some (record { values = side_by_side (values (drop (length S - k) S)); left = drop k (reverse (values (drop b S))) })
+      taken k Values.none (reverse (values (drop b S))) ≡ Some
+      (record {
+        values = side_by_side (values (drop (length S - k) S));
+        left = drop k (reverse (values (drop b S)));
+      })
   taken_top p =
       let n = length-map (drop b S) value in
       let m = length-drop b S in
@@ -72,9 +79,11 @@ module _ (S : List Val) (b k : ℕ) (h : k ≤ length (reverse (values (drop b S
       let e : b + (length (values (drop b S)) - k) ≡ length S - k = omega (arith, n, m, o, p) in
       taken_last (values (drop b S)) k (omega (arith, n, m, o))
       ∙ ap (λ vs. Some (record { values = side_by_side vs; left = drop k (reverse (values (drop b S))) }))
-      (drop-map value (length (values (drop b S)) - k) (drop b S) ∙ ap values (drop-drop (length (values (drop b S)) - k) b S ∙ ap (λ j. drop j S) e))
+      (drop-map value (length (values (drop b S)) - k) (drop b S) ∙
+      ap values (drop-drop (length (values (drop b S)) - k) b S ∙ ap (λ j. drop j S) e))
 
-  pub forgotten_top : b ≤ length S → reverse (values (drop b (take (length S - k) S))) ≡ drop k (reverse (values (drop b S)))
+  pub forgotten_top : b ≤ length S →
+      reverse (values (drop b (take (length S - k) S))) ≡ drop k (reverse (values (drop b S)))
   forgotten_top p =
       let n = length-map (drop b S) value in
       let m = length-drop b S in
@@ -87,7 +96,10 @@ module _ (S : List Val) (b k : ℕ) (h : k ≤ length (reverse (values (drop b S
 
   pub taken_rest : (T : List Val) (n : ℕ) → b ≤ length S → T ≡ S → n ≡ length S →
       taken k Values.none (reverse (values (drop b S)))
-      ≡ Some (record { values = side_by_side (values (take (length T - (n - k)) (drop (n - k) T))); left = drop k (reverse (values (drop b S))) })
+      ≡ Some (record {
+        values = side_by_side (values (take (length T - (n - k)) (drop (n - k) T)));
+        left = drop k (reverse (values (drop b S)));
+      })
   taken_rest T n p t e =
       taken_top p
       ∙ ap (λ l. Some (record { values = side_by_side (values l); left = drop k (reverse (values (drop b S))) }))

@@ -9,7 +9,6 @@ use Rattle.qtt_machine.specs.declared.event.Event.{Event}
 use Rattle.qtt_machine.specs.declared.event.Event.TheVariants as event
 use Rattle.qtt_machine.specs.declared.frames.Frames as code_frames
 use Rattle.qtt_machine.specs.View.{state}
-use Rattle.qtt_machine.specs.Stacks.{IsStacked}
 
 abbrev pub cause : TrapKind → Cause
 cause trap.MissingClause = Cause.missing_clause
@@ -24,6 +23,5 @@ did (event.Ended v) s = Did.ends (value v)
 did (event.Trapped k) s = Did.traps (cause k)
 
 -- an event tells exactly what was to be done
-pub record Does (d : Did) (e : Event) (m : code_frames.Frames) : Type 0 where
-  pub stacked : IsStacked m
-  pub is : d ≡ did e (state m)
+abbrev pub Does : Did → Event → code_frames.Frames → Type 0
+Does d e m = d ≡ did e (state m)

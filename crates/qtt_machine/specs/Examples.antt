@@ -8,4 +8,10 @@ use Rattle.qtt_code.specs.Rows.{int, plain}
 abbrev pub closing : Program
 closing =
     plain 0 (int 7 ∷ Instr.closure 1 1 ∷ Instr.return ∷ [])
-    ∷ record { owner = item 0; captured = 1; takes = 1; code = Instr.captured 0 ∷ Instr.local 0 ∷ Instr.prim prim.SubInt ∷ Instr.return ∷ [] } ∷ []
+    ∷ record {
+      owner = item 0;
+      captured = 1;
+      takes = 1;
+      code = Instr.captured 0 ∷ Instr.local 0 ∷
+          Instr.prim prim.SubInt ∷ Instr.return ∷ [];
+    } ∷ []

@@ -10,7 +10,6 @@ use Rattle.qtt_machine.specs.declared.event.Halt.{Halt}
 use Rattle.qtt_machine.specs.declared.event.Halt.TheVariants as halted
 use Rattle.qtt_machine.specs.declared.frames.Frames as code_frames
 use Rattle.qtt_machine.specs.View.{state}
-use Rattle.qtt_machine.specs.Stacks.{IsStacked}
 use Rattle.qtt_machine.specs.Events.{cause}
 use Rattle.qtt_machine.specs.Runs.{Answers}
 use Rattle.qtt_code.specs.Forward.{AllJumpForward}
@@ -23,7 +22,6 @@ halt halted.Spent = machine.Halt.spent
 
 -- frames that may run on: their state answers every bound, by code whose jumps go to later places
 pub record MayRun (P : Program) (m : code_frames.Frames) : Type 0 where
-  pub stacked : IsStacked m
   pub jumps : AllJumpForward P
   pub forward : StateJumpsForward (state m)
   pub answers : Answers P (state m)

@@ -31,7 +31,8 @@ frames locals pushed [] = []
 frames locals pushed (f ∷ fs) = frame locals pushed f ∷ frames (take f.locals locals) (take f.pushed pushed) fs
 
 abbrev pub state_over : List Val → List Val → code_frame.Frame → List code_frame.Frame → State
-state_over locals pushed f fs = record { frame = frame locals pushed f; waiting = frames (take f.locals locals) (take f.pushed pushed) fs }
+state_over locals pushed f fs =
+    record { frame = frame locals pushed f; waiting = frames (take f.locals locals) (take f.pushed pushed) fs }
 
 abbrev pub state : code_frames.Frames → State
 state m = state_over m.locals.items m.pushed.items m.running (reverse m.waiting.items)

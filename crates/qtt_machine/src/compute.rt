@@ -7,7 +7,7 @@ ghost use Rattle.qtt_code.specs.Value.{Values};
 ghost use Rattle.qtt_code.specs.Machine.{Did, answers, arity, computes, taken, truth as truth_of};
 ghost use Rattle.qtt_value.specs.View.{value as value_of};
 ghost use Rattle.qtt_machine.specs.View.{state};
-ghost use Rattle.qtt_machine.specs.Stacks.{IsStacked, IsWithin};
+ghost use Rattle.qtt_machine.specs.Stacks.{IsWithin};
 ghost use Rattle.qtt_machine.specs.Events.{Does};
 ghost use Rattle.qtt_machine.specs.Ticks.{IsDivision, TicksOr};
 ghost use Rattle.qtt_machine.specs.Parts.{IsOnNumbers, as_number as number_of, as_text as text_of};
@@ -27,10 +27,13 @@ pub(crate) fn compute<'a>(
     arena: &'a Bump,
     prim: Primitive,
 ) -> Result<Event<'a>, MemoryError>
-    requires stacked { IsStacked frames.old }
     requires within { IsWithin (state frames.old) }
-    requires unstuck { ¬ (computes prim (taken (arity prim) Values.none (state frames.old).frame.pushed) (state frames.old) ≡ Did.stuck) }
-    ensures { IfOk result (λ event. Does (computes prim (taken (arity prim) Values.none (state frames.old).frame.pushed) (state frames.old)) event frames.new) }
+    requires unstuck { ¬ (computes prim
+        (taken (arity prim) Values.none (state frames.old).frame.pushed)
+        (state frames.old) ≡ Did.stuck) }
+    ensures { IfOk result (λ event. Does
+        (computes prim (taken (arity prim) Values.none (state frames.old).frame.pushed)
+        (state frames.old)) event frames.new) }
 {
     match prim {
         Primitive::AddInt
@@ -53,11 +56,14 @@ fn with_numbers<'a>(
     arena: &'a Bump,
     prim: Primitive,
 ) -> Result<Event<'a>, MemoryError>
-    requires stacked { IsStacked frames.old }
     requires within { IsWithin (state frames.old) }
     requires numbers { IsOnNumbers prim }
-    requires unstuck { ¬ (computes prim (taken (arity prim) Values.none (state frames.old).frame.pushed) (state frames.old) ≡ Did.stuck) }
-    ensures { IfOk result (λ event. Does (computes prim (taken (arity prim) Values.none (state frames.old).frame.pushed) (state frames.old)) event frames.new) }
+    requires unstuck { ¬ (computes prim
+        (taken (arity prim) Values.none (state frames.old).frame.pushed)
+        (state frames.old) ≡ Did.stuck) }
+    ensures { IfOk result (λ event. Does
+        (computes prim (taken (arity prim) Values.none (state frames.old).frame.pushed)
+        (state frames.old)) event frames.new) }
 {
     let Some(first) = as_number(frames.newest(1)) else {
         unreachable!()
@@ -72,10 +78,12 @@ fn with_numbers<'a>(
 }
 
 fn show<'a>(frames: &mut Frames<'a>, arena: &'a Bump) -> Result<Event<'a>, MemoryError>
-    requires stacked { IsStacked frames.old }
     requires within { IsWithin (state frames.old) }
-    requires unstuck { ¬ (computes primitive.ShowInt (taken 1 Values.none (state frames.old).frame.pushed) (state frames.old) ≡ Did.stuck) }
-    ensures { IfOk result (λ event. Does (computes primitive.ShowInt (taken 1 Values.none (state frames.old).frame.pushed) (state frames.old)) event frames.new) }
+    requires unstuck { ¬ (computes primitive.ShowInt
+        (taken 1 Values.none (state frames.old).frame.pushed) (state frames.old) ≡ Did.stuck) }
+    ensures { IfOk result (λ event. Does
+        (computes primitive.ShowInt (taken 1 Values.none (state frames.old).frame.pushed)
+        (state frames.old)) event frames.new) }
 {
     let Some(number) = as_number(frames.newest(0)) else {
         unreachable!()
@@ -87,10 +95,12 @@ fn show<'a>(frames: &mut Frames<'a>, arena: &'a Bump) -> Result<Event<'a>, Memor
 }
 
 fn append<'a>(frames: &mut Frames<'a>, arena: &'a Bump) -> Result<Event<'a>, MemoryError>
-    requires stacked { IsStacked frames.old }
     requires within { IsWithin (state frames.old) }
-    requires unstuck { ¬ (computes primitive.AppendString (taken 2 Values.none (state frames.old).frame.pushed) (state frames.old) ≡ Did.stuck) }
-    ensures { IfOk result (λ event. Does (computes primitive.AppendString (taken 2 Values.none (state frames.old).frame.pushed) (state frames.old)) event frames.new) }
+    requires unstuck { ¬ (computes primitive.AppendString
+        (taken 2 Values.none (state frames.old).frame.pushed) (state frames.old) ≡ Did.stuck) }
+    ensures { IfOk result (λ event. Does
+        (computes primitive.AppendString (taken 2 Values.none (state frames.old).frame.pushed)
+        (state frames.old)) event frames.new) }
 {
     let Some(first) = as_text(frames.newest(1)) else {
         unreachable!()
@@ -104,10 +114,12 @@ fn append<'a>(frames: &mut Frames<'a>, arena: &'a Bump) -> Result<Event<'a>, Mem
 }
 
 fn same_texts<'a>(frames: &mut Frames<'a>) -> Result<Event<'a>, MemoryError>
-    requires stacked { IsStacked frames.old }
     requires within { IsWithin (state frames.old) }
-    requires unstuck { ¬ (computes primitive.EqString (taken 2 Values.none (state frames.old).frame.pushed) (state frames.old) ≡ Did.stuck) }
-    ensures { IfOk result (λ event. Does (computes primitive.EqString (taken 2 Values.none (state frames.old).frame.pushed) (state frames.old)) event frames.new) }
+    requires unstuck { ¬ (computes primitive.EqString
+        (taken 2 Values.none (state frames.old).frame.pushed) (state frames.old) ≡ Did.stuck) }
+    ensures { IfOk result (λ event. Does
+        (computes primitive.EqString (taken 2 Values.none (state frames.old).frame.pushed)
+        (state frames.old)) event frames.new) }
 {
     let Some(first) = as_text(frames.newest(1)) else {
         unreachable!()
@@ -121,9 +133,11 @@ fn same_texts<'a>(frames: &mut Frames<'a>) -> Result<Event<'a>, MemoryError>
 
 /// Whether a primitive makes a tick: each does but a division by 0.
 pub(crate) fn makes_tick(frames: &Frames, prim: Primitive) -> bool
-    requires stacked { IsStacked frames.now }
-    requires unstuck { ¬ (computes prim (taken (arity prim) Values.none (state frames.now).frame.pushed) (state frames.now) ≡ Did.stuck) }
-    ensures { TicksOr (computes prim (taken (arity prim) Values.none (state frames.now).frame.pushed) (state frames.now)) result }
+    requires { ¬ (computes prim (taken (arity prim) Values.none (state frames.now).frame.pushed)
+        (state frames.now) ≡ Did.stuck) }
+    ensures { TicksOr (computes prim
+        (taken (arity prim) Values.none (state frames.now).frame.pushed) (state frames.now))
+        result }
 {
     match prim {
         Primitive::DivInt | Primitive::ModInt => divides(frames, prim),
@@ -133,10 +147,13 @@ pub(crate) fn makes_tick(frames: &Frames, prim: Primitive) -> bool
 
 /// Whether the divisor is not 0.
 fn divides(frames: &Frames, prim: Primitive) -> bool
-    requires stacked { IsStacked frames.now }
     requires division { IsDivision prim }
-    requires unstuck { ¬ (computes prim (taken (arity prim) Values.none (state frames.now).frame.pushed) (state frames.now) ≡ Did.stuck) }
-    ensures { TicksOr (computes prim (taken (arity prim) Values.none (state frames.now).frame.pushed) (state frames.now)) result }
+    requires unstuck { ¬ (computes prim
+        (taken (arity prim) Values.none (state frames.now).frame.pushed)
+        (state frames.now) ≡ Did.stuck) }
+    ensures { TicksOr (computes prim
+        (taken (arity prim) Values.none (state frames.now).frame.pushed) (state frames.now))
+        result }
 {
     let Some(_dividend) = as_number(frames.newest(1)) else {
         unreachable!()
@@ -158,11 +175,13 @@ fn give<'a>(
     count: usize,
     answer: PrimAnswer,
 ) -> Result<Event<'a>, MemoryError>
-    requires stacked { IsStacked frames.old }
     requires within { IsWithin (state frames.old) }
     requires pushed { count ≤ length (state frames.old).frame.pushed }
-    requires unstuck { ¬ (answers answer (drop count (state frames.old).frame.pushed) (state frames.old) ≡ Did.stuck) }
-    ensures { IfOk result (λ event. Does (answers answer (drop count (state frames.old).frame.pushed) (state frames.old)) event frames.new) }
+    requires unstuck { ¬ (answers answer (drop count (state frames.old).frame.pushed)
+        (state frames.old) ≡ Did.stuck) }
+    ensures { IfOk result (λ event. Does
+        (answers answer (drop count (state frames.old).frame.pushed) (state frames.old)) event
+        frames.new) }
 {
     match answer {
         PrimAnswer::Value(Lit::Int(number)) => {

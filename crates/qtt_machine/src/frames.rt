@@ -5,9 +5,7 @@ ghost use Rattle.qtt_code.specs.Value.{Values, side_by_side};
 ghost use Rattle.qtt_code.specs.Machine.{alone as alone_with, begin, in_frame, left_with, moved, onward, pushing, returns_to, suspended, taken, with_locals};
 ghost use Rattle.qtt_code.specs.View.{block as block_of, instr as instr_of, instrs};
 ghost use Rattle.qtt_value.specs.View.{value as value_of, values};
-ghost use Rattle.qtt_machine.specs.View.{state, position};
-ghost use Rattle.qtt_machine.specs.Events.{Does};
-ghost use Rattle.qtt_machine.specs.Stacks.{IsStacked, IsWithin, Stands};
+ghost use Rattle.qtt_machine.specs.Stacks.{InOrder, InOrder-prop, IsWithin};
 
 use crate::event::Event;
 use qtt_base::MemoryError;
@@ -42,9 +40,16 @@ pub struct Frames<'a> {
     waiting: Vec<Frame<'a>>,
     locals: Vec<Val<'a>>,
     pushed: Vec<Val<'a>>,
+    /// The values of each frame begin no later than those of the one that it waits for.
+    ghost stacked: { InOrder (running ∷ reverse waiting.items) (length locals.items)
+        (length pushed.items) } by { InOrder-prop (running ∷ reverse waiting.items)
+            (length locals.items) (length pushed.items) },
 }
 
 impl<'a> Frames<'a> {
+    ghost use Rattle.qtt_machine.specs.View.{state, position};
+    ghost use Rattle.qtt_machine.specs.Events.{Does};
+
     pub(crate) fn alloc(&self) -> Global {
         *self.pushed.allocator()
     }
@@ -55,7 +60,8 @@ impl<'a> Frames<'a> {
         code: &'a [Instr],
         pushed: &[Val<'a>],
     ) -> Result<Frames<'a>, MemoryError>
-        ensures { IfOk result (λ frames. Stands frames (alone_with (instrs code.now) (reverse (values pushed.now)))) }
+        ensures { IfOk result (λ frames. state frames ≡
+            (alone_with (instrs code.now) (reverse (values pushed.now)))) }
     {
         Ok(Frames {
             running: Frame {
@@ -74,7 +80,8 @@ impl<'a> Frames<'a> {
     /// The next instruction.
     pub(crate) fn next(&self) -> &'a Instr
         requires { IsWithin (state self.now) }
-        ensures { slice_get (state self.now).frame.code (state self.now).frame.place ≡ Some (instr_of result.now) }
+        ensures { slice_get (state self.now).frame.code (state self.now).frame.place ≡ Some
+            (instr_of result.now) }
     {
         &self.running.code[self.running.place]
     }
@@ -95,9 +102,10 @@ impl<'a> Frames<'a> {
 
     /// Pushes a value and goes on.
     pub(crate) fn push(&mut self, value: Val<'a>) -> Result<(), MemoryError>
-        requires stacked { IsStacked self.old }
-        requires within { IsWithin (state self.old) }
-        ensures { OnOk result (Stands self.new (in_frame (pushing (value_of value.entry) (state self.old).frame.pushed (state self.old).frame) (state self.old))) }
+        requires { IsWithin (state self.old) }
+        ensures { OnOk result (state self.new ≡
+            (in_frame (pushing (value_of value.entry) (state self.old).frame.pushed
+            (state self.old).frame) (state self.old))) }
     {
         prove!(self.running.place < self.running.code.len());
         self.pushed.push(value)?;
@@ -107,19 +115,23 @@ impl<'a> Frames<'a> {
 
     /// The last so many values, the oldest first.
     pub(crate) fn top(&self, count: usize) -> &[Val<'a>]
-        requires stacked { IsStacked self.now }
-        requires pushed { count ≤ length (state self.now).frame.pushed }
-        ensures { taken count Values.none (state self.now).frame.pushed ≡ Some (record { values = side_by_side (values result.now); left = drop count (state self.now).frame.pushed }) }
+        requires { count ≤ length (state self.now).frame.pushed }
+        ensures { taken count Values.none (state self.now).frame.pushed ≡ Some
+            (record {
+              values = side_by_side (values result.now);
+              left = drop count (state self.now).frame.pushed;
+            }) }
     {
         &self.pushed[self.pushed.len() - count..]
     }
 
     /// Drops the last so many values, pushes one and goes on.
     pub(crate) fn replace(&mut self, count: usize, value: Val<'a>) -> Result<(), MemoryError>
-        requires stacked { IsStacked self.old }
         requires within { IsWithin (state self.old) }
         requires pushed { count ≤ length (state self.old).frame.pushed }
-        ensures { OnOk result (Stands self.new (in_frame (pushing (value_of value.entry) (drop count (state self.old).frame.pushed) (state self.old).frame) (state self.old))) }
+        ensures { OnOk result (state self.new ≡
+            (in_frame (pushing (value_of value.entry) (drop count (state self.old).frame.pushed)
+            (state self.old).frame) (state self.old))) }
     {
         self.forget(count);
         self.push(value)
@@ -127,17 +139,17 @@ impl<'a> Frames<'a> {
 
     /// Drops the last so many values.
     pub(crate) fn forget(&mut self, count: usize)
-        requires stacked { IsStacked self.old }
-        requires pushed { count ≤ length (state self.old).frame.pushed }
-        ensures { Stands self.new (in_frame (left_with (drop count (state self.old).frame.pushed) (state self.old).frame) (state self.old)) }
+        requires { count ≤ length (state self.old).frame.pushed }
+        ensures { state self.new ≡
+            (in_frame (left_with (drop count (state self.old).frame.pushed)
+            (state self.old).frame) (state self.old)) }
     {
         self.pushed.truncate(self.pushed.len() - count);
     }
 
     /// The value with so many newer ones.
     pub(crate) fn newest(&self, newer: usize) -> Val<'a>
-        requires stacked { IsStacked self.now }
-        requires pushed { newer < length (state self.now).frame.pushed }
+        requires { newer < length (state self.now).frame.pushed }
         ensures { slice_get (state self.now).frame.pushed newer ≡ Some (value_of result) }
     {
         self.pushed[self.pushed.len() - 1 - newer]
@@ -150,9 +162,13 @@ impl<'a> Frames<'a> {
         block: &'a Block,
         captured: &'a [Val<'a>],
     ) -> Result<(), MemoryError>
-        requires stacked { IsStacked self.old }
-        requires within { IsWithin (state self.old) }
-        ensures { OnOk result (Stands self.new (record { frame = begin (block_of block.now) (values captured.now) []; waiting = suspended (position entry) (state self.old).frame (state self.old).waiting })) }
+        requires { IsWithin (state self.old) }
+        ensures { OnOk result (state self.new ≡
+            (record {
+              frame = begin (block_of block.now) (values captured.now) [];
+              waiting = suspended (position entry) (state self.old).frame
+                  (state self.old).waiting;
+            })) }
     {
         match entry {
             Entry::Inner => self.suspend(block, captured),
@@ -164,9 +180,12 @@ impl<'a> Frames<'a> {
     }
 
     fn suspend(&mut self, block: &'a Block, captured: &'a [Val<'a>]) -> Result<(), MemoryError>
-        requires stacked { IsStacked self.old }
-        requires within { IsWithin (state self.old) }
-        ensures { OnOk result (Stands self.new (record { frame = begin (block_of block.now) (values captured.now) []; waiting = onward (state self.old).frame ∷ (state self.old).waiting })) }
+        requires { IsWithin (state self.old) }
+        ensures { OnOk result (state self.new ≡
+            (record {
+              frame = begin (block_of block.now) (values captured.now) [];
+              waiting = onward (state self.old).frame ∷ (state self.old).waiting;
+            })) }
     {
         prove!(self.running.place < self.running.code.len());
         self.running.place += 1;
@@ -182,8 +201,11 @@ impl<'a> Frames<'a> {
     }
 
     fn leave_for(&mut self, block: &'a Block, captured: &'a [Val<'a>])
-        requires stacked { IsStacked self.old }
-        ensures { Stands self.new (record { frame = begin (block_of block.now) (values captured.now) []; waiting = (state self.old).waiting }) }
+        ensures { state self.new ≡
+            (record {
+              frame = begin (block_of block.now) (values captured.now) [];
+              waiting = (state self.old).waiting;
+            }) }
     {
         self.locals.truncate(self.running.locals);
         self.pushed.truncate(self.running.pushed);
@@ -194,8 +216,9 @@ impl<'a> Frames<'a> {
 
     /// Adds locals.
     pub(crate) fn add_locals(&mut self, added: &[Val<'a>]) -> Result<(), MemoryError>
-        requires stacked { IsStacked self.old }
-        ensures { OnOk result (Stands self.new (in_frame (with_locals ((state self.old).frame.locals ++ values added.now) (state self.old).frame) (state self.old))) }
+        ensures { OnOk result (state self.new ≡
+            (in_frame (with_locals ((state self.old).frame.locals ++ values added.now)
+            (state self.old).frame) (state self.old))) }
     {
         self.locals.extend_from_slice(added)?;
         Ok(())
@@ -203,9 +226,11 @@ impl<'a> Frames<'a> {
 
     /// Drops the last so many locals, or all where there are fewer, and goes on.
     pub(crate) fn drop_locals(&mut self, count: usize)
-        requires stacked { IsStacked self.old }
-        requires within { IsWithin (state self.old) }
-        ensures { Stands self.new (in_frame (onward (with_locals (take (length (state self.old).frame.locals - count) (state self.old).frame.locals) (state self.old).frame)) (state self.old)) }
+        requires { IsWithin (state self.old) }
+        ensures { state self.new ≡
+            (in_frame (onward (with_locals
+            (take (length (state self.old).frame.locals - count) (state self.old).frame.locals)
+            (state self.old).frame)) (state self.old)) }
     {
         prove!(self.running.place < self.running.code.len());
         let own = self.locals.len() - self.running.locals;
@@ -215,16 +240,16 @@ impl<'a> Frames<'a> {
     }
 
     pub(crate) fn jump(&mut self, place: usize)
-        requires stacked { IsStacked self.old }
-        ensures { Stands self.new (in_frame (moved place (state self.old).frame) (state self.old)) }
+        ensures { state self.new ≡
+            (in_frame (moved place (state self.old).frame) (state self.old)) }
     {
         self.running.place = place;
     }
 
     /// Gives a value back to the newest frame that waits, or to the caller where none does.
     pub(crate) fn give_back(&mut self, value: Val<'a>) -> Result<Event<'a>, MemoryError>
-        requires stacked { IsStacked self.old }
-        ensures { IfOk result (λ event. Does (returns_to (value_of value.entry) (state self.old).waiting) event self.new) }
+        ensures { IfOk result (λ event. Does
+            (returns_to (value_of value.entry) (state self.old).waiting) event self.new) }
     {
         match self.waiting.pop() {
             None => Ok(Event::Ended(value)),

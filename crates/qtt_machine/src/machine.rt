@@ -1,6 +1,6 @@
 //! The machine.
 
-ghost use Rattle.std.specs.Prelude.{◌≡◌, ◌+◌, IfOk};
+ghost use Rattle.std.specs.Prelude.{◌≡◌, IfOk};
 ghost use Rattle.qtt_code.specs.Forward.{AllJumpForward};
 ghost use Rattle.qtt_code.specs.Machine.{called, start as started};
 ghost use Rattle.qtt_code.specs.View.{program as program_of};
@@ -36,7 +36,8 @@ impl<'p: 'a, 'a> Machine<'p, 'a> {
     ) -> Result<Machine<'p, 'a>, MemoryError>
         requires jumps { AllJumpForward (program_of program.now) }
         requires answers { Answers (program_of program.now) (started block) }
-        ensures { IfOk result (λ machine. Begins (program_of program.now) (started block) 0 machine) }
+        ensures { IfOk result (λ machine. Begins (program_of program.now)
+            (started block) 0 machine) }
     {
         let code = arena.try_alloc([Instr::TailEnter(block)])?;
         let frames = Frames::alone(alloc, code, &[])?;
@@ -48,7 +49,8 @@ impl<'p: 'a, 'a> Machine<'p, 'a> {
         })
     }
 
-    /// Makes at most so many ticks. Out of memory also where more than 2^64 - 1 were made in all.
+    /// Makes at most so many ticks. Out of memory also where more than 2^64 - 1 were made in
+    /// all.
     pub fn advance(&mut self, ticks: u64) -> Result<Halt<'a>, MemoryError>
         requires { IsReady self.old }
         ensures { IfOk result (λ halt. Advanced self.old ticks halt self.new) }
@@ -68,8 +70,10 @@ impl<'p: 'a, 'a> Machine<'p, 'a> {
     /// Makes the call of a function at an argument the next evaluation.
     pub fn call(&mut self, function: Val<'a>, argument: Val<'a>) -> Result<(), MemoryError>
         requires jumps { AllJumpForward (program self.old) }
-        requires answers { Answers (program self.old) (called (value_of function) (value_of argument)) }
-        ensures { IfOk result (λ _. Begins (program self.old) (called (value_of function.entry) (value_of argument.entry)) self.old.used self.new) }
+        requires answers { Answers (program self.old)
+            (called (value_of function) (value_of argument)) }
+        ensures { IfOk result (λ _. Begins (program self.old)
+            (called (value_of function.entry) (value_of argument.entry)) self.old.used self.new) }
     {
         let code = self.arena.try_alloc([Instr::TailCall])?;
         self.frames = Frames::alone(self.frames.alloc(), code, &[function, argument])?;

@@ -1,10 +1,8 @@
 //! Runs of so many ticks.
 
-ghost use Rattle.std.specs.Prelude.{◌≡◌, ◌↔◌, IfOk, IsTrue};
-ghost use Rattle.qtt_code.specs.Machine.{Did, State, instruction};
+ghost use Rattle.std.specs.Prelude.{IfOk};
 ghost use Rattle.qtt_code.specs.View.{program as program_of};
 ghost use Rattle.qtt_machine.specs.View.{state};
-ghost use Rattle.qtt_machine.specs.Stacks.{IsStacked};
 ghost use Rattle.qtt_machine.specs.Halting.{AtTick, AtHalt, MayRun, Ran};
 
 use crate::event::{Event, Halt};
@@ -22,7 +20,8 @@ fn to_tick<'a>(
     arena: &'a Bump,
 ) -> Result<Event<'a>, MemoryError>
     requires { MayRun (program_of program.now) frames.old }
-    ensures { IfOk result (λ event. AtTick (program_of program.now) (state frames.old) event frames.new) }
+    ensures { IfOk result (λ event. AtTick (program_of program.now)
+        (state frames.old) event frames.new) }
 {
     'instructions: loop {
         match step(frames, program, arena)? {
@@ -41,7 +40,8 @@ fn to_halt<'a>(
     arena: &'a Bump,
 ) -> Result<Halt<'a>, MemoryError>
     requires { MayRun (program_of program.now) frames.old }
-    ensures { IfOk result (λ halt. AtHalt (program_of program.now) (state frames.old) halt frames.new) }
+    ensures { IfOk result (λ halt. AtHalt (program_of program.now)
+        (state frames.old) halt frames.new) }
 {
     'instructions: loop {
         if ticks_next(frames, program) {
@@ -64,7 +64,8 @@ pub(crate) fn run<'a>(
     ticks: u64,
 ) -> Result<(Halt<'a>, u64), MemoryError>
     requires { MayRun (program_of program.now) frames.old }
-    ensures { IfOk result (λ r. Ran (program_of program.now) (state frames.old) ticks r.0 r.1 frames.new) }
+    ensures { IfOk result (λ r. Ran (program_of program.now)
+        (state frames.old) ticks r.0 r.1 frames.new) }
 {
     'ticks: for made in 0..ticks {
         match to_tick(frames, program, arena)? {

@@ -8,7 +8,7 @@ ghost use Rattle.qtt_code.specs.View.{instr as instr_of, program as program_of};
 ghost use Rattle.qtt_term.specs.View.{action};
 ghost use Rattle.qtt_value.specs.View.{value as value_of, values};
 ghost use Rattle.qtt_machine.specs.View.{state, position};
-ghost use Rattle.qtt_machine.specs.Stacks.{IsStacked, IsWithin};
+ghost use Rattle.qtt_machine.specs.Stacks.{IsWithin};
 ghost use Rattle.qtt_machine.specs.Ticks.{NextTicks, is_tick as tick_of};
 ghost use Rattle.qtt_machine.specs.Events.{Does};
 ghost use Rattle.qtt_machine.specs.Parts.{as_closure as closure_of, as_con as con_of};
@@ -29,9 +29,9 @@ pub(crate) fn step<'a>(
     program: &'a Program,
     arena: &'a Bump,
 ) -> Result<Event<'a>, MemoryError>
-    requires stacked { IsStacked frames.old }
-    requires unstuck { ¬ (instruction (program_of program.now) (state frames.old) ≡ Did.stuck) }
-    ensures { IfOk result (λ event. Does (instruction (program_of program.now) (state frames.old)) event frames.new) }
+    requires { ¬ (instruction (program_of program.now) (state frames.old) ≡ Did.stuck) }
+    ensures { IfOk result (λ event. Does
+        (instruction (program_of program.now) (state frames.old)) event frames.new) }
 {
     match frames.next() {
         Instr::Local(place) => local(frames, *place),
@@ -65,8 +65,7 @@ pub(crate) fn step<'a>(
 
 /// Whether the next instruction makes a tick.
 pub(crate) fn ticks_next(frames: &Frames, program: &Program) -> bool
-    requires stacked { IsStacked frames.now }
-    requires unstuck { ¬ (instruction (program_of program.now) (state frames.now) ≡ Did.stuck) }
+    requires { ¬ (instruction (program_of program.now) (state frames.now) ≡ Did.stuck) }
     ensures { NextTicks (program_of program.now) (state frames.now) result }
 {
     match frames.next() {
@@ -104,10 +103,12 @@ fn is_tick(instr: &Instr) -> bool
 
 #[inline(always)]
 fn local<'a>(frames: &mut Frames<'a>, place: u32) -> Result<Event<'a>, MemoryError>
-    requires stacked { IsStacked frames.old }
     requires within { IsWithin (state frames.old) }
-    requires unstuck { ¬ (pushes (slice_get (state frames.old).frame.locals place) (state frames.old) ≡ Did.stuck) }
-    ensures { IfOk result (λ event. Does (pushes (slice_get (state frames.old).frame.locals place) (state frames.old)) event frames.new) }
+    requires unstuck { ¬ (pushes (slice_get (state frames.old).frame.locals place)
+        (state frames.old) ≡ Did.stuck) }
+    ensures { IfOk result (λ event. Does
+        (pushes (slice_get (state frames.old).frame.locals place) (state frames.old)) event
+        frames.new) }
 {
     frames.push(frames.local(place as usize))?;
     Ok(Event::Went)
@@ -115,10 +116,12 @@ fn local<'a>(frames: &mut Frames<'a>, place: u32) -> Result<Event<'a>, MemoryErr
 
 #[inline(always)]
 fn captured<'a>(frames: &mut Frames<'a>, place: u32) -> Result<Event<'a>, MemoryError>
-    requires stacked { IsStacked frames.old }
     requires within { IsWithin (state frames.old) }
-    requires unstuck { ¬ (pushes (slice_get (state frames.old).frame.captured place) (state frames.old) ≡ Did.stuck) }
-    ensures { IfOk result (λ event. Does (pushes (slice_get (state frames.old).frame.captured place) (state frames.old)) event frames.new) }
+    requires unstuck { ¬ (pushes (slice_get (state frames.old).frame.captured place)
+        (state frames.old) ≡ Did.stuck) }
+    ensures { IfOk result (λ event. Does
+        (pushes (slice_get (state frames.old).frame.captured place) (state frames.old)) event
+        frames.new) }
 {
     frames.push(frames.captured(place as usize))?;
     Ok(Event::Went)
@@ -126,9 +129,9 @@ fn captured<'a>(frames: &mut Frames<'a>, place: u32) -> Result<Event<'a>, Memory
 
 #[inline(always)]
 fn known<'a>(frames: &mut Frames<'a>, value: Val<'a>) -> Result<Event<'a>, MemoryError>
-    requires stacked { IsStacked frames.old }
-    requires within { IsWithin (state frames.old) }
-    ensures { IfOk result (λ event. Does (pushes (Some (value_of value.entry)) (state frames.old)) event frames.new) }
+    requires { IsWithin (state frames.old) }
+    ensures { IfOk result (λ event. Does
+        (pushes (Some (value_of value.entry)) (state frames.old)) event frames.new) }
 {
     frames.push(value)?;
     Ok(Event::Went)
@@ -137,9 +140,13 @@ fn known<'a>(frames: &mut Frames<'a>, value: Val<'a>) -> Result<Event<'a>, Memor
 /// The last so many values, placed in the arena.
 #[inline(always)]
 fn parts<'a>(frames: &Frames<'a>, arena: &'a Bump, count: u32) -> Result<&'a [Val<'a>], MemoryError>
-    requires stacked { IsStacked frames.now }
-    requires pushed { count ≤ length (state frames.now).frame.pushed }
-    ensures { IfOk result (λ placed. taken count Values.none (state frames.now).frame.pushed ≡ Some (record { values = side_by_side (values placed.now); left = drop count (state frames.now).frame.pushed })) }
+    requires { count ≤ length (state frames.now).frame.pushed }
+    ensures { IfOk result (λ placed. taken count Values.none
+        (state frames.now).frame.pushed ≡ Some
+        (record {
+          values = side_by_side (values placed.now);
+          left = drop count (state frames.now).frame.pushed;
+        })) }
 {
     place(arena, frames.top(count as usize))
 }
@@ -151,10 +158,12 @@ fn closure<'a>(
     block: u32,
     count: u32,
 ) -> Result<Event<'a>, MemoryError>
-    requires stacked { IsStacked frames.old }
     requires within { IsWithin (state frames.old) }
-    requires unstuck { ¬ (makes (Value.closure block) (taken count Values.none (state frames.old).frame.pushed) (state frames.old) ≡ Did.stuck) }
-    ensures { IfOk result (λ event. Does (makes (Value.closure block) (taken count Values.none (state frames.old).frame.pushed) (state frames.old)) event frames.new) }
+    requires unstuck { ¬ (makes (Value.closure block)
+        (taken count Values.none (state frames.old).frame.pushed) (state frames.old) ≡ Did.stuck) }
+    ensures { IfOk result (λ event. Does
+        (makes (Value.closure block) (taken count Values.none (state frames.old).frame.pushed)
+        (state frames.old)) event frames.new) }
 {
     let captured = parts(frames, arena, count)?;
     frames.replace(count as usize, Val::Clo(block, captured))?;
@@ -168,10 +177,12 @@ fn con<'a>(
     tag: u32,
     count: u32,
 ) -> Result<Event<'a>, MemoryError>
-    requires stacked { IsStacked frames.old }
     requires within { IsWithin (state frames.old) }
-    requires unstuck { ¬ (makes (Value.con tag) (taken count Values.none (state frames.old).frame.pushed) (state frames.old) ≡ Did.stuck) }
-    ensures { IfOk result (λ event. Does (makes (Value.con tag) (taken count Values.none (state frames.old).frame.pushed) (state frames.old)) event frames.new) }
+    requires unstuck { ¬ (makes (Value.con tag)
+        (taken count Values.none (state frames.old).frame.pushed) (state frames.old) ≡ Did.stuck) }
+    ensures { IfOk result (λ event. Does
+        (makes (Value.con tag) (taken count Values.none (state frames.old).frame.pushed)
+        (state frames.old)) event frames.new) }
 {
     let fields = parts(frames, arena, count)?;
     frames.replace(count as usize, Val::Con(tag, fields))?;
@@ -185,10 +196,13 @@ fn act<'a>(
     kind: ActKind,
     count: u32,
 ) -> Result<Event<'a>, MemoryError>
-    requires stacked { IsStacked frames.old }
     requires within { IsWithin (state frames.old) }
-    requires unstuck { ¬ (makes (Value.action (action kind)) (taken count Values.none (state frames.old).frame.pushed) (state frames.old) ≡ Did.stuck) }
-    ensures { IfOk result (λ event. Does (makes (Value.action (action kind)) (taken count Values.none (state frames.old).frame.pushed) (state frames.old)) event frames.new) }
+    requires unstuck { ¬ (makes (Value.action (action kind))
+        (taken count Values.none (state frames.old).frame.pushed) (state frames.old) ≡ Did.stuck) }
+    ensures { IfOk result (λ event. Does
+        (makes (Value.action (action kind))
+        (taken count Values.none (state frames.old).frame.pushed) (state frames.old)) event
+        frames.new) }
 {
     let arguments = parts(frames, arena, count)?;
     frames.replace(count as usize, Val::Act(kind, arguments))?;
@@ -205,10 +219,12 @@ fn enter<'a>(
     captured: &'a [Val<'a>],
     locals: &[Val<'a>],
 ) -> Result<Event<'a>, MemoryError>
-    requires stacked { IsStacked frames.old }
     requires within { IsWithin (state frames.old) }
-    requires unstuck { ¬ (enters (position entry) (slice_get (program_of program.now) number) (values captured.now) (values locals.now) (state frames.old) ≡ Did.stuck) }
-    ensures { IfOk result (λ event. Does (enters (position entry) (slice_get (program_of program.now) number) (values captured.now) (values locals.now) (state frames.old)) event frames.new) }
+    requires unstuck { ¬ (enters (position entry) (slice_get (program_of program.now) number)
+        (values captured.now) (values locals.now) (state frames.old) ≡ Did.stuck) }
+    ensures { IfOk result (λ event. Does
+        (enters (position entry) (slice_get (program_of program.now) number)
+        (values captured.now) (values locals.now) (state frames.old)) event frames.new) }
 {
     let block = &program.blocks[number as usize];
     frames.enter(entry, block, captured)?;
@@ -222,10 +238,12 @@ fn call<'a>(
     program: &'a Program,
     entry: Entry,
 ) -> Result<Event<'a>, MemoryError>
-    requires stacked { IsStacked frames.old }
     requires within { IsWithin (state frames.old) }
-    requires unstuck { ¬ (calls (program_of program.now) (position entry) (state frames.old).frame.pushed (state frames.old) ≡ Did.stuck) }
-    ensures { IfOk result (λ event. Does (calls (program_of program.now) (position entry) (state frames.old).frame.pushed (state frames.old)) event frames.new) }
+    requires unstuck { ¬ (calls (program_of program.now) (position entry)
+        (state frames.old).frame.pushed (state frames.old) ≡ Did.stuck) }
+    ensures { IfOk result (λ event. Does
+        (calls (program_of program.now) (position entry) (state frames.old).frame.pushed
+        (state frames.old)) event frames.new) }
 {
     let argument = frames.newest(0);
     let Some((block, captured)) = as_closure(frames.newest(1)) else {
@@ -241,10 +259,12 @@ fn force<'a>(
     program: &'a Program,
     entry: Entry,
 ) -> Result<Event<'a>, MemoryError>
-    requires stacked { IsStacked frames.old }
     requires within { IsWithin (state frames.old) }
-    requires unstuck { ¬ (forces (program_of program.now) (position entry) (state frames.old).frame.pushed (state frames.old) ≡ Did.stuck) }
-    ensures { IfOk result (λ event. Does (forces (program_of program.now) (position entry) (state frames.old).frame.pushed (state frames.old)) event frames.new) }
+    requires unstuck { ¬ (forces (program_of program.now) (position entry)
+        (state frames.old).frame.pushed (state frames.old) ≡ Did.stuck) }
+    ensures { IfOk result (λ event. Does
+        (forces (program_of program.now) (position entry) (state frames.old).frame.pushed
+        (state frames.old)) event frames.new) }
 {
     let Some((block, captured)) = as_closure(frames.newest(0)) else {
         unreachable!()
@@ -255,9 +275,11 @@ fn force<'a>(
 
 #[inline(always)]
 fn switch<'a>(frames: &mut Frames<'a>, places: &[u32]) -> Result<Event<'a>, MemoryError>
-    requires stacked { IsStacked frames.old }
-    requires unstuck { ¬ (switches places.now (state frames.old).frame.pushed (state frames.old) ≡ Did.stuck) }
-    ensures { IfOk result (λ event. Does (switches places.now (state frames.old).frame.pushed (state frames.old)) event frames.new) }
+    requires { ¬ (switches places.now (state frames.old).frame.pushed
+        (state frames.old) ≡ Did.stuck) }
+    ensures { IfOk result (λ event. Does
+        (switches places.now (state frames.old).frame.pushed (state frames.old)) event
+        frames.new) }
 {
     let Some((tag, fields)) = as_con(frames.newest(0)) else {
         unreachable!()
@@ -271,9 +293,9 @@ fn switch<'a>(frames: &mut Frames<'a>, places: &[u32]) -> Result<Event<'a>, Memo
 
 #[inline(always)]
 fn give_back<'a>(frames: &mut Frames<'a>) -> Result<Event<'a>, MemoryError>
-    requires stacked { IsStacked frames.old }
-    requires unstuck { ¬ (returns (state frames.old).frame.pushed (state frames.old).waiting ≡ Did.stuck) }
-    ensures { IfOk result (λ event. Does (returns (state frames.old).frame.pushed (state frames.old).waiting) event frames.new) }
+    requires { ¬ (returns (state frames.old).frame.pushed (state frames.old).waiting ≡ Did.stuck) }
+    ensures { IfOk result (λ event. Does
+        (returns (state frames.old).frame.pushed (state frames.old).waiting) event frames.new) }
 {
     let value = frames.newest(0);
     frames.give_back(value)

@@ -10,7 +10,8 @@ abbrev pub hole_at : Option Statement → Option Local
 hole_at None = None
 hole_at (Some s) = statement_hole (statement_of s)
 
-pub last_hole-statements : (xs : List Statement) → last_hole (statements (map statement_of xs)) ≡ hole_at (slice_get xs (length xs - 1))
+pub last_hole-statements : (xs : List Statement) →
+    last_hole (statements (map statement_of xs)) ≡ hole_at (slice_get xs (length xs - 1))
 last_hole-statements [] = refl
 last_hole-statements (x ∷ []) = refl
 last_hole-statements (x ∷ y ∷ more) =

@@ -20,7 +20,8 @@ told view Memory m h = tt
 told view (Fault f) m h = h
 
 -- the error that a question mark passes on
-pub passed : {A B : Type 0} (view : A → B) (r : Result A NamesError) (e : NamesError) (m : Answer B) → IsErrAnd r (λ y. y ≡ e) → Fails e m → Gives view r m
+pub passed : {A B : Type 0} (view : A → B) (r : Result A NamesError) (e : NamesError) (m : Answer B) →
+    IsErrAnd r (λ y. y ≡ e) → Fails e m → Gives view r m
 passed view (Ok a) e m h f = absurd h
 passed view (Err y) e m h f = subst (λ (z : NamesError). Gives view (Err z) m) (sym h) (told view e m f)
 
@@ -30,6 +31,7 @@ here Memory m k h = tt
 here (Fault f) m k h = ap (λ (r : Answer _). r >>= k) h ∙ err_then (seen f) k
 
 -- the first part is found, and a later one fails
-pub later : {A B : Type 0} (e : NamesError) (m : Answer A) (k : A → Answer B) (a : A) → m ≡ Ok a → Fails e (k a) → Fails e (m >>= k)
+pub later : {A B : Type 0} (e : NamesError) (m : Answer A) (k : A → Answer B) (a : A) → m ≡ Ok a → Fails e (k a) →
+    Fails e (m >>= k)
 later Memory m k a h f = tt
 later (Fault g) m k a h f = ap (λ (r : Answer _). r >>= k) h ∙ ok_then a k ∙ f

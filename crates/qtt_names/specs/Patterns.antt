@@ -34,8 +34,8 @@ abbrev pub behind_shape : List (List ℕ) → Shape → List (List ℕ)
 behind_shape before p = before ++ variables p
 
 abbrev mutual
-  -- A pattern behind these variables of its clause, where Γ are all the clause's variables: they count in each dot pattern. The name
-  -- of a constructor is no local one.
+  -- A pattern behind these variables of its clause, where Γ are all the clause's variables: they count in each
+  -- dot pattern. The name of a constructor is no local one.
   pub filled_shape : Names → List (List ℕ) → List (List ℕ) → Shape → Answer Shape
   filled_shape names Γ before (variable k n s) = do
     u ← first_of before n s

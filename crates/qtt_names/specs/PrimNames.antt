@@ -10,11 +10,13 @@ use Rattle.qtt_names.specs.Scope.{Imported, Scope, same_name, own_items, module_
 -- the names in the order of their numbers
 abbrev pub prim_names : List (List ℕ)
 prim_names =
-    codes "Int" ∷ codes "String" ∷ codes "Handle" ∷ codes "Unit" ∷ codes "Bool" ∷ codes "Line" ∷ codes "IO" ∷ codes "IO1"
+    codes "Int" ∷ codes "String" ∷ codes "Handle" ∷ codes "Unit" ∷ codes "Bool" ∷ codes "Line" ∷ codes "IO" ∷
+    codes "IO1"
     ∷ codes "MkUnit" ∷ codes "False" ∷ codes "True" ∷ codes "Eof" ∷ codes "Got" ∷ codes "Eq" ∷ codes "Refl"
     ∷ codes "addInt" ∷ codes "subInt" ∷ codes "mulInt" ∷ codes "divInt" ∷ codes "modInt" ∷ codes "eqInt" ∷ codes "ltInt"
     ∷ codes "appendString" ∷ codes "eqString" ∷ codes "showInt"
-    ∷ codes "pure" ∷ codes "pure1" ∷ codes "putLine" ∷ codes "getLine" ∷ codes "open" ∷ codes "write" ∷ codes "close" ∷ []
+    ∷ codes "pure" ∷ codes "pure1" ∷ codes "putLine" ∷ codes "getLine" ∷ codes "open" ∷ codes "write" ∷
+    codes "close" ∷ []
 
 -- Prim is module 0
 abbrev pub prim_id : ℕ → GlobalId
@@ -41,4 +43,5 @@ prim_import = record { name = prim_name; items = prim_items }
 
 -- The scope of a text: Prim is one of its imports.
 abbrev pub scope_of : ModuleId → Module → List Imported → Scope
-scope_of home m imports = record { home = home; name = module_name m; own = own_items m; imports = prim_import ∷ imports }
+scope_of home m imports =
+    record { home = home; name = module_name m; own = own_items m; imports = prim_import ∷ imports }

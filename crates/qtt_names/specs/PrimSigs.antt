@@ -129,11 +129,13 @@ type_sigs = sig 0 types ∷ sig 0 types ∷ sig 0 types ∷ sig 0 types ∷ sig 
 -- MkUnit, False, True, Eof, Got; Eq, Refl
 abbrev pub constructor_sigs : List Sig
 constructor_sigs =
-    sig 0 unit ∷ sig 0 bool ∷ sig 0 bool ∷ sig 0 line ∷ sig 0 (arrow string line) ∷ of_equality ∷ sig 2 (for_points reflexive) ∷ []
+    sig 0 unit ∷ sig 0 bool ∷ sig 0 bool ∷ sig 0 line ∷ sig 0 (arrow string line) ∷ of_equality ∷
+    sig 2 (for_points reflexive) ∷ []
 
 -- addInt, subInt, mulInt, divInt, modInt; eqInt, ltInt
 abbrev pub number_sigs : List Sig
-number_sigs = of_numbers int ∷ of_numbers int ∷ of_numbers int ∷ of_numbers int ∷ of_numbers int ∷ of_numbers bool ∷ of_numbers bool ∷ []
+number_sigs = of_numbers int ∷ of_numbers int ∷ of_numbers int ∷ of_numbers int ∷ of_numbers int ∷
+    of_numbers bool ∷ of_numbers bool ∷ []
 
 -- appendString, eqString, showInt
 abbrev pub text_sigs : List Sig

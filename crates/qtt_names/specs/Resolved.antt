@@ -20,7 +20,8 @@ use Rattle.qtt_names.specs.InTurn.{in_turn}
 use Rattle.qtt_names.specs.Filled.{Names, filled}
 use Rattle.qtt_names.specs.Patterns.{first_of, variables, behind_shape, filled_shape}
 
--- what stands before an item: how many own items, the names of the groups of clauses, that of the clause directly before, and holes
+-- what stands before an item: how many own items, the names of the groups of clauses, that of the clause directly
+-- before, and holes
 pub record Before : Type 0 where
   pub items : ℕ
   pub groups : List (List ℕ)
@@ -95,7 +96,8 @@ behind_param Γ p = Γ ++ param_name p ∷ []
 abbrev pub filled_params : Names → List (List ℕ) → List Param → Answer (List Param)
 filled_params names = in_turn (filled_param names) behind_param
 
--- The type of a family: a chain of binders, for the indices, and an end. An index is counted, but its name is in scope nowhere.
+-- The type of a family: a chain of binders, for the indices, and an end. An index is counted, but its name is in
+-- scope nowhere.
 abbrev pub filled_chain : Names → List (List ℕ) → Tree → Answer Tree
 filled_chain names Γ (pi k m n a b s) = do
   a' ← filled names Γ a
@@ -145,7 +147,8 @@ is_definition (Some item) = item.is_definition
 
 -- the name of a clause is that of a definition that stands earlier
 abbrev pub new_clause : Scope → ℕ → Option (List ℕ) → List (List ℕ) → List ℕ → Span → Answer (Unit {0})
-new_clause s k last groups n span = cond (is_definition (own_item s k n)) (new_group last groups n span) (unbound n span)
+new_clause s k last groups n span =
+    cond (is_definition (own_item s k n)) (new_group last groups n span) (unbound n span)
 
 abbrev pub variables_in : List Shape → List (List ℕ)
 variables_in = flat_map variables
@@ -154,8 +157,8 @@ variables_in = flat_map variables
 abbrev pub filled_patterns : Names → List (List ℕ) → List (List ℕ) → List Shape → Answer (List Shape)
 filled_patterns names Γ = in_turn (filled_shape names Γ) behind_shape
 
--- A family as own item k. A name in its parameters and in its type sees the items before it, and one in a constructor's type the
--- family too.
+-- A family as own item k. A name in its parameters and in its type sees the items before it, and one in a
+-- constructor's type the family too.
 abbrev pub filled_family : Scope → ℕ → List ℕ → Span → List Param → Tree → List Con → Span → Answer Item
 filled_family s k n ns ps t cs span = do
   u ← new_item s k n ns

@@ -34,8 +34,8 @@ entry_of n = lookup (same_name n)
 abbrev pub constructor_name : Con → List ℕ × Bool
 constructor_name (con n t s) = (n, false)
 
--- the names that an item declares, each with whether it is that of a definition: a family and then its constructors, or a
--- definition at its signature
+-- the names that an item declares, each with whether it is that of a definition: a family and then its
+-- constructors, or a definition at its signature
 abbrev pub declared : Item → List (List ℕ × Bool)
 declared (family n ns ps t cs s) = (n, false) ∷ map constructor_name cs
 declared (signature p m n ns t s) = (n, true) ∷ []
@@ -51,7 +51,8 @@ with_item known n item = cond (is_some (entry_of n known)) known (known ++ (n, i
 -- the names added with their numbers, from k on
 abbrev pub with_items : List (List ℕ × OwnItem) → ℕ → List (List ℕ × Bool) → List (List ℕ × OwnItem)
 with_items known k [] = known
-with_items known k (d ∷ more) = with_items (with_item known d.0 (record { number = k; is_definition = d.1 })) (suc k) more
+with_items known k (d ∷ more) =
+    with_items (with_item known d.0 (record { number = k; is_definition = d.1 })) (suc k) more
 
 -- The own items of a text: they are numbered from 0 in text order, and of two with one name the first is kept.
 abbrev pub own_items : Module → List (List ℕ × OwnItem)

@@ -23,8 +23,9 @@ pub struct Exports {
     pub sigs: Vec<Sig>,
 }
 
-/// The signature of an item: a chain of binders. In front stand those that no text writes (the parameters of a constructor's family,
-/// and the type that `pure` and `pure1` are at), and then those in braces.
+/// The signature of an item: a chain of binders. In front stand those that no text writes (the
+/// parameters of a constructor's family, and the type that `pure` and `pure1` are at), and then
+/// those in braces.
 #[derive(Debug, Drop)]
 pub struct Sig {
     pub braces: u32,
@@ -33,7 +34,8 @@ pub struct Sig {
 }
 
 impl Exports {
-    /// What the module Prim gives: module 0, whose items are numbered from 0. Places are 0:0, of no length; no binder is in braces.
+    /// What the module Prim gives: module 0, whose items are numbered from 0. Places are 0:0, of
+    /// no length; no binder is in braces.
     pub fn prim(alloc: Global) -> Result<Exports, MemoryError>
         ensures { IfOk result (λ e. exports_of e ≡ prim_exports) }
     {

@@ -27,13 +27,14 @@ fn copied_bytes(alloc: Global, bytes: &[u8]) -> Result<Vec<u8>, MemoryError>
     Ok(bytes.to_vec(alloc)?)
 }
 
-// Each method gives a part of a tree with the targets of its names. `locals` are the names of the local binders around it, the
-// oldest first.
+// Each method gives a part of a tree with the targets of its names. `locals` are the names of
+// the local binders around it, the oldest first.
 impl Resolver<'_> {
     #[cycle(filled)]
     #[tactic(auto, using(crate::proofs::Parts::parts))]
     pub fn expr(&self, locals: &mut Vec<Name>, source: &Expr) -> Result<Expr, NamesError>
-        ensures gives { Gives tree_of result (filled (names_of self.now) locals.old.items (tree_of source.now)) }
+        ensures gives { Gives tree_of result
+            (filled (names_of self.now) locals.old.items (tree_of source.now)) }
         ensures kept { OnOk result (locals.new.items ≡ locals.old.items) }
     {
         match source {
@@ -156,7 +157,8 @@ impl Resolver<'_> {
         name: &Name,
         source: &Expr,
     ) -> Result<Box<Expr>, NamesError>
-        ensures gives { Gives boxed_tree result (filled (names_of self.now) (locals.old.items ++ name.now ∷ []) (tree_of source.now)) }
+        ensures gives { Gives boxed_tree result
+            (filled (names_of self.now) (locals.old.items ++ name.now ∷ []) (tree_of source.now)) }
         ensures kept { OnOk result (locals.new.items ≡ locals.old.items) }
     {
         let depth = locals.len();
@@ -173,7 +175,8 @@ impl Resolver<'_> {
         locals: &mut Vec<Name>,
         source: &Option<Box<Expr>>,
     ) -> Result<Option<Box<Expr>>, NamesError>
-        ensures gives { Gives written_type result (filled_annotation (names_of self.now) locals.old.items (written_type source.now)) }
+        ensures gives { Gives written_type result
+            (filled_annotation (names_of self.now) locals.old.items (written_type source.now)) }
         ensures kept { OnOk result (locals.new.items ≡ locals.old.items) }
     {
         match source {
@@ -185,7 +188,8 @@ impl Resolver<'_> {
     #[cycle(filled)]
     #[tactic(auto, using(crate::proofs::Parts::parts))]
     fn argument(&self, locals: &mut Vec<Name>, source: &Argument) -> Result<Argument, NamesError>
-        ensures gives { Gives argument_of result (filled_argument (names_of self.now) locals.old.items (argument_of source.now)) }
+        ensures gives { Gives argument_of result
+            (filled_argument (names_of self.now) locals.old.items (argument_of source.now)) }
         ensures kept { OnOk result (locals.new.items ≡ locals.old.items) }
     {
         match source {
@@ -202,7 +206,9 @@ impl Resolver<'_> {
         locals: &mut Vec<Name>,
         source: &[Argument],
     ) -> Result<Vec<Argument>, NamesError>
-        ensures gives { Gives argument_list result (in_turn (filled_argument (names_of self.now)) unmoved locals.old.items (map argument_of source.now)) }
+        ensures gives { Gives argument_list result
+            (in_turn (filled_argument (names_of self.now)) unmoved locals.old.items
+            (map argument_of source.now)) }
         ensures kept { OnOk result (locals.new.items ≡ locals.old.items) }
     {
         let mut done = Vec::with_capacity(self.alloc, source.len())?;
@@ -216,8 +222,10 @@ impl Resolver<'_> {
     #[cycle(filled)]
     #[tactic(auto, using(crate::proofs::Parts::parts))]
     fn binder(&self, locals: &mut Vec<Name>, source: &Binder) -> Result<Binder, NamesError>
-        ensures gives { Gives binder_of result (filled_binder (names_of self.now) locals.old.items (binder_of source.now)) }
-        ensures bound { OnOk result (locals.new.items ≡ behind_binder locals.old.items (binder_of source.now)) }
+        ensures gives { Gives binder_of result
+            (filled_binder (names_of self.now) locals.old.items (binder_of source.now)) }
+        ensures bound { OnOk result
+            (locals.new.items ≡ behind_binder locals.old.items (binder_of source.now)) }
     {
         match source {
             Binder::Plain(name) => {
@@ -246,8 +254,11 @@ impl Resolver<'_> {
     #[cycle(filled)]
     #[tactic(auto, using(crate::proofs::Parts::parts))]
     fn binders(&self, locals: &mut Vec<Name>, source: &[Binder]) -> Result<Vec<Binder>, NamesError>
-        ensures gives { Gives binder_list result (in_turn (filled_binder (names_of self.now)) behind_binder locals.old.items (map binder_of source.now)) }
-        ensures bound { OnOk result (locals.new.items ≡ fold behind_binder locals.old.items (map binder_of source.now)) }
+        ensures gives { Gives binder_list result
+            (in_turn (filled_binder (names_of self.now)) behind_binder locals.old.items
+            (map binder_of source.now)) }
+        ensures bound { OnOk result
+            (locals.new.items ≡ fold behind_binder locals.old.items (map binder_of source.now)) }
     {
         let mut done = Vec::with_capacity(self.alloc, source.len())?;
         for binder in source {
@@ -260,8 +271,10 @@ impl Resolver<'_> {
     #[cycle(filled)]
     #[tactic(auto, using(crate::proofs::Parts::parts))]
     fn statement(&self, locals: &mut Vec<Name>, source: &Statement) -> Result<Statement, NamesError>
-        ensures gives { Gives statement_of result (filled_statement (names_of self.now) locals.old.items (statement_of source.now)) }
-        ensures bound { OnOk result (locals.new.items ≡ behind_statement locals.old.items (statement_of source.now)) }
+        ensures gives { Gives statement_of result
+            (filled_statement (names_of self.now) locals.old.items (statement_of source.now)) }
+        ensures bound { OnOk result
+            (locals.new.items ≡ behind_statement locals.old.items (statement_of source.now)) }
     {
         match source {
             Statement::Bind { name, value } => {
@@ -305,8 +318,12 @@ impl Resolver<'_> {
         locals: &mut Vec<Name>,
         source: &[Statement],
     ) -> Result<Vec<Statement>, NamesError>
-        ensures gives { Gives statement_list result (in_turn (filled_statement (names_of self.now)) behind_statement locals.old.items (map statement_of source.now)) }
-        ensures bound { OnOk result (locals.new.items ≡ fold behind_statement locals.old.items (map statement_of source.now)) }
+        ensures gives { Gives statement_list result
+            (in_turn (filled_statement (names_of self.now)) behind_statement locals.old.items
+            (map statement_of source.now)) }
+        ensures bound { OnOk result
+            (locals.new.items ≡ fold behind_statement locals.old.items
+            (map statement_of source.now)) }
     {
         let mut done = Vec::with_capacity(self.alloc, source.len())?;
         for statement in source {

@@ -68,7 +68,8 @@ fn statement_hole(source: &Statement) -> Option<(&Name, Span)>
 impl Resolver<'_> {
     /// A name that none of the first own items has.
     fn new_item(&self, items: u32, name: &Name, span: Span) -> Result<(), NamesError>
-        ensures { Gives unchanged result (meaning.new_item (scope_seen self.now.scope.now) items name.now span) }
+        ensures { Gives unchanged result
+            (meaning.new_item (scope_seen self.now.scope.now) items name.now span) }
     {
         match self.scope.own_item(items, name) {
             Some(_) => Err(NamesError::duplicate(self.alloc, name, span)),
@@ -79,8 +80,10 @@ impl Resolver<'_> {
     /// A parameter, whose name is put behind the locals.
     #[tactic(auto, using(crate::proofs::Steps::ok_then, crate::proofs::Steps::err_then))]
     fn param(&self, locals: &mut Vec<Name>, source: &Param) -> Result<Param, NamesError>
-        ensures gives { Gives param_of result (meaning.filled_param (names_of self.now) locals.old.items (param_of source.now)) }
-        ensures behind { OnOk result (locals.new.items ≡ meaning.behind_param locals.old.items (param_of source.now)) }
+        ensures gives { Gives param_of result
+            (meaning.filled_param (names_of self.now) locals.old.items (param_of source.now)) }
+        ensures behind { OnOk result
+            (locals.new.items ≡ meaning.behind_param locals.old.items (param_of source.now)) }
     {
         let ty = self.expr(locals, &source.ty)?;
         locals.push(source.name.copy()?)?;
@@ -95,8 +98,12 @@ impl Resolver<'_> {
     /// Parameters, whose names are put behind the locals.
     #[tactic(auto, using(crate::proofs::Steps::steps))]
     fn params(&self, locals: &mut Vec<Name>, source: &[Param]) -> Result<Vec<Param>, NamesError>
-        ensures gives { Gives param_list result (meaning.filled_params (names_of self.now) locals.old.items (map param_of source.now)) }
-        ensures behind { OnOk result (locals.new.items ≡ fold meaning.behind_param locals.old.items (map param_of source.now)) }
+        ensures gives { Gives param_list result
+            (meaning.filled_params (names_of self.now) locals.old.items
+            (map param_of source.now)) }
+        ensures behind { OnOk result
+            (locals.new.items ≡ fold meaning.behind_param locals.old.items
+            (map param_of source.now)) }
     {
         let mut done = Vec::with_capacity(self.alloc, source.len())?;
         for param in source {
@@ -108,7 +115,8 @@ impl Resolver<'_> {
     /// The type of a family, whose indices have no names in scope.
     #[tactic(auto, using(crate::proofs::Steps::steps))]
     fn chain(&self, locals: &mut Vec<Name>, source: &Expr) -> Result<Expr, NamesError>
-        ensures gives { Gives tree_of result (meaning.filled_chain (names_of self.now) locals.old.items (tree_of source.now)) }
+        ensures gives { Gives tree_of result
+            (meaning.filled_chain (names_of self.now) locals.old.items (tree_of source.now)) }
         ensures kept { OnOk result (locals.new.items ≡ locals.old.items) }
     {
         match source {
@@ -146,7 +154,9 @@ impl Resolver<'_> {
         number: u32,
         source: &ConDecl,
     ) -> Result<ConDecl, NamesError>
-        ensures gives { Gives con_of result (meaning.filled_con (scope_seen self.now.scope.now) (names_of self.now) locals.old.items number (con_of source.now)) }
+        ensures gives { Gives con_of result
+            (meaning.filled_con (scope_seen self.now.scope.now)
+            (names_of self.now) locals.old.items number (con_of source.now)) }
         ensures kept { OnOk result (locals.new.items ≡ locals.old.items) }
     {
         self.new_item(number, &source.name, source.span)?;
@@ -165,7 +175,9 @@ impl Resolver<'_> {
         first: u32,
         source: &[ConDecl],
     ) -> Result<Vec<ConDecl>, NamesError>
-        ensures { Gives con_list result (meaning.filled_cons (scope_seen self.now.scope.now) (names_of self.now) locals.old.items first (map con_of source.now)) }
+        ensures { Gives con_list result
+            (meaning.filled_cons (scope_seen self.now.scope.now)
+            (names_of self.now) locals.old.items first (map con_of source.now)) }
     {
         let mut done = Vec::with_capacity(self.alloc, source.len())?;
         let mut number = first;
@@ -179,7 +191,10 @@ impl Resolver<'_> {
     /// A family that is the next own item.
     #[tactic(auto, using(crate::proofs::Members::members))]
     fn family(&self, source: &FamilyDecl) -> Result<FamilyDecl, NamesError>
-        ensures { Gives family_item result (meaning.filled_family (scope_seen self.now.scope.now) self.now.items source.now.name source.now.name_span (map param_of source.now.params.items) (tree_of source.now.ty) (map con_of source.now.constructors.items) source.now.span) }
+        ensures { Gives family_item result
+            (meaning.filled_family (scope_seen self.now.scope.now) self.now.items source.now.name
+            source.now.name_span (map param_of source.now.params.items) (tree_of source.now.ty)
+            (map con_of source.now.constructors.items) source.now.span) }
     {
         self.new_item(self.items, &source.name, source.name_span)?;
         let mut locals = Vec::new(self.alloc);
@@ -205,7 +220,10 @@ impl Resolver<'_> {
     /// A signature that is the next own item.
     #[tactic(auto, using(crate::proofs::Steps::steps))]
     fn signature(&self, source: &SignatureDecl) -> Result<SignatureDecl, NamesError>
-        ensures { Gives signature_item result (meaning.filled_signature (scope_seen self.now.scope.now) self.now.items source.now.partial source.now.mult source.now.name source.now.name_span (tree_of source.now.ty) source.now.span) }
+        ensures { Gives signature_item result
+            (meaning.filled_signature (scope_seen self.now.scope.now) self.now.items
+            source.now.partial source.now.mult source.now.name source.now.name_span
+            (tree_of source.now.ty) source.now.span) }
     {
         self.new_item(self.items, &source.name, source.name_span)?;
         let mut locals = Vec::new(self.alloc);
@@ -227,8 +245,11 @@ impl Resolver<'_> {
         name: &Name,
         span: Span,
     ) -> Result<(), NamesError>
-        ensures gives { Gives unchanged result (meaning.new_clause (scope_seen self.now.scope.now) self.now.items last.now groups.old.keys name.now span) }
-        ensures noted { OnOk result (groups.new.keys ≡ meaning.with_group last.now groups.old.keys name.now) }
+        ensures gives { Gives unchanged result
+            (meaning.new_clause (scope_seen self.now.scope.now) self.now.items last.now
+            groups.old.keys name.now span) }
+        ensures noted { OnOk result
+            (groups.new.keys ≡ meaning.with_group last.now groups.old.keys name.now) }
     {
         if !self.is_definition(name) {
             return Err(NamesError::unbound(self.alloc, name, span));
@@ -241,7 +262,8 @@ impl Resolver<'_> {
 
     /// The name is that of a definition that stands earlier.
     fn is_definition(&self, name: &Name) -> bool
-        ensures { result ≡ meaning.is_definition (own_item (scope_seen self.now.scope.now) self.now.items name.now) }
+        ensures { result ≡ meaning.is_definition
+            (own_item (scope_seen self.now.scope.now) self.now.items name.now) }
     {
         match self.scope.own_item(self.items, name) {
             Some(item) => item.is_definition,
@@ -254,8 +276,10 @@ impl Resolver<'_> {
         holes: &mut IndexSet<Name>,
         hole: Option<(&Name, Span)>,
     ) -> Result<(), NamesError>
-        ensures gives { Gives unchanged result (meaning.new_hole holes.old.keys (hole_of hole.entry)) }
-        ensures noted { OnOk result (holes.new.keys ≡ holes.old.keys ++ meaning.hole_name (hole_of hole.entry)) }
+        ensures gives { Gives unchanged result
+            (meaning.new_hole holes.old.keys (hole_of hole.entry)) }
+        ensures noted { OnOk result
+            (holes.new.keys ≡ holes.old.keys ++ meaning.hole_name (hole_of hole.entry)) }
     {
         match hole {
             Some((name, span)) => self.note(holes, name, span),
@@ -271,9 +295,20 @@ impl Resolver<'_> {
         holes: &mut IndexSet<Name>,
         source: &Clause,
     ) -> Result<Clause, NamesError>
-        ensures gives { Gives clause_item result (meaning.filled_clause (scope_seen self.now.scope.now) (record { items = self.now.items; groups = groups.old.keys; last = last.now; holes = holes.old.keys }) source.now.name (map shape_of source.now.patterns.items) (tree_of source.now.side) source.now.span) }
-        ensures groups { OnOk result (groups.new.keys ≡ meaning.with_group last.now groups.old.keys source.now.name) }
-        ensures holes { OnOk result (holes.new.keys ≡ holes.old.keys ++ meaning.hole_name (meaning.tail_hole (tree_of source.now.side))) }
+        ensures gives { Gives clause_item result
+            (meaning.filled_clause (scope_seen self.now.scope.now)
+            (record {
+              items = self.now.items;
+              groups = groups.old.keys;
+              last = last.now;
+              holes = holes.old.keys;
+            }) source.now.name (map shape_of source.now.patterns.items)
+            (tree_of source.now.side) source.now.span) }
+        ensures groups { OnOk result
+            (groups.new.keys ≡ meaning.with_group last.now groups.old.keys source.now.name) }
+        ensures holes { OnOk result
+            (holes.new.keys ≡ holes.old.keys ++ meaning.hole_name
+            (meaning.tail_hole (tree_of source.now.side))) }
     {
         self.new_clause(last, groups, &source.name, source.span)?;
         let mut variables = Vec::new(self.alloc);
@@ -298,9 +333,19 @@ impl Resolver<'_> {
         holes: &mut IndexSet<Name>,
         source: &Item,
     ) -> Result<Item, NamesError>
-        ensures gives { Gives item_of result (meaning.filled_item (scope_seen self.now.scope.now) (record { items = self.now.items; groups = groups.old.keys; last = last.now; holes = holes.old.keys }) (item_of source.now)) }
-        ensures groups { OnOk result (groups.new.keys ≡ meaning.groups_behind last.now groups.old.keys (item_of source.now)) }
-        ensures holes { OnOk result (holes.new.keys ≡ meaning.holes_behind holes.old.keys (item_of source.now)) }
+        ensures gives { Gives item_of result
+            (meaning.filled_item (scope_seen self.now.scope.now)
+            (record {
+              items = self.now.items;
+              groups = groups.old.keys;
+              last = last.now;
+              holes = holes.old.keys;
+            }) (item_of source.now)) }
+        ensures groups { OnOk result
+            (groups.new.keys ≡ meaning.groups_behind last.now groups.old.keys
+            (item_of source.now)) }
+        ensures holes { OnOk result
+            (holes.new.keys ≡ meaning.holes_behind holes.old.keys (item_of source.now)) }
     {
         match source {
             Item::Family(family) => Ok(Item::Family(self.family(family)?)),
@@ -343,7 +388,8 @@ fn clause_name(item: &Item) -> Result<Option<Name>, MemoryError>
 
 #[tactic(auto, using(crate::proofs::Steps::steps))]
 fn items(alloc: Global, text: &[Item], scope: &Scope) -> Result<Vec<Item>, NamesError>
-    ensures { Gives item_list result (meaning.filled_items (scope_seen scope.now) meaning.at_start (map item_of text.now)) }
+    ensures { Gives item_list result
+        (meaning.filled_items (scope_seen scope.now) meaning.at_start (map item_of text.now)) }
 {
     let mut done = Vec::with_capacity(alloc, text.len())?;
     let mut items = 0;
@@ -376,12 +422,14 @@ fn copied_imports(alloc: Global, imports: &[Import]) -> Result<Vec<Import>, Memo
     Ok(copies)
 }
 
-/// The text with the target of each name, or its first fault in text order: kind 10 where nothing of the name is in scope, 11 where
-/// several things are, and 12 at the second item, group of clauses, variable of a clause, or hole of one name. The scope is meant to
-/// be that of the text.
+/// The text with the target of each name, or its first fault in text order: kind 10 where
+/// nothing of the name is in scope, 11 where several things are, and 12 at the second item,
+/// group of clauses, variable of a clause, or hole of one name. The scope is meant to be that of
+/// the text.
 #[tactic(auto, using(crate::proofs::Steps::steps))]
 pub fn resolve(alloc: Global, text: &ModuleText, scope: &Scope) -> Result<ModuleText, NamesError>
-    ensures { Gives module_of result (meaning.resolved (scope_seen scope.now) (module_of text.now)) }
+    ensures { Gives module_of result
+        (meaning.resolved (scope_seen scope.now) (module_of text.now)) }
 {
     Ok(ModuleText {
         header: text.header,

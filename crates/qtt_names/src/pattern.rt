@@ -17,7 +17,8 @@ use qtt_syntax::Pattern;
 #[cycle(variables)]
 #[tactic(auto, using(crate::proofs::Shapes::shape_parts))]
 fn push_variables(variables: &mut Vec<Name>, source: &Pattern) -> Result<(), MemoryError>
-    ensures { OnOk result (variables.new.items ≡ variables.old.items ++ variables_in (shape_of source.now)) }
+    ensures { OnOk result (variables.new.items ≡ variables.old.items ++ variables_in
+        (shape_of source.now)) }
 {
     match source {
         Pattern::Variable { name, .. } => {
@@ -36,7 +37,8 @@ pub(crate) fn push_all_variables(
     variables: &mut Vec<Name>,
     source: &[Pattern],
 ) -> Result<(), MemoryError>
-    ensures { OnOk result (variables.new.items ≡ variables.old.items ++ flat_map variables_in (map shape_of source.now)) }
+    ensures { OnOk result (variables.new.items ≡ variables.old.items ++ flat_map variables_in
+        (map shape_of source.now)) }
 {
     for pattern in source {
         push_variables(variables, pattern)?;
@@ -62,7 +64,8 @@ impl Resolver<'_> {
         }
     }
 
-    /// A pattern, where `variables` are all those of its clause, and `before` those of the patterns before it.
+    /// A pattern, where `variables` are all those of its clause, and `before` those of the
+    /// patterns before it.
     #[cycle(patterns)]
     #[tactic(auto, using(crate::proofs::Shapes::shape_parts))]
     fn pattern(
@@ -71,9 +74,12 @@ impl Resolver<'_> {
         before: &mut IndexSet<Name>,
         source: &Pattern,
     ) -> Result<Pattern, NamesError>
-        ensures gives { Gives shape_of result (filled_shape (names_of self.now) variables.old.items before.old.keys (shape_of source.now)) }
+        ensures gives { Gives shape_of result
+            (filled_shape (names_of self.now) variables.old.items before.old.keys
+            (shape_of source.now)) }
         ensures kept { OnOk result (variables.new.items ≡ variables.old.items) }
-        ensures behind { OnOk result (before.new.keys ≡ behind_shape before.old.keys (shape_of source.now)) }
+        ensures behind { OnOk result
+            (before.new.keys ≡ behind_shape before.old.keys (shape_of source.now)) }
     {
         match source {
             Pattern::Variable { mark, name, span } => {
@@ -120,9 +126,12 @@ impl Resolver<'_> {
         before: &mut IndexSet<Name>,
         source: &[Pattern],
     ) -> Result<Vec<Pattern>, NamesError>
-        ensures gives { Gives shape_list result (in_turn (filled_shape (names_of self.now) variables.old.items) behind_shape before.old.keys (map shape_of source.now)) }
+        ensures gives { Gives shape_list result
+            (in_turn (filled_shape (names_of self.now) variables.old.items) behind_shape
+            before.old.keys (map shape_of source.now)) }
         ensures kept { OnOk result (variables.new.items ≡ variables.old.items) }
-        ensures behind { OnOk result (before.new.keys ≡ fold behind_shape before.old.keys (map shape_of source.now)) }
+        ensures behind { OnOk result
+            (before.new.keys ≡ fold behind_shape before.old.keys (map shape_of source.now)) }
     {
         let mut done = Vec::with_capacity(self.alloc, source.len())?;
         for pattern in source {

@@ -59,7 +59,8 @@ fn types() -> Expr
 }
 
 fn applied(alloc: Global, function: Expr, arguments: Vec<Argument>) -> Result<Expr, MemoryError>
-    ensures { IfOk result (λ t. tree_of t ≡ defined.applied (tree_of function) (map argument_of arguments.items)) }
+    ensures { IfOk result (λ t. tree_of t ≡ defined.applied (tree_of function)
+        (map argument_of arguments.items)) }
 {
     Ok(Expr::Apply {
         function: Box::new(alloc, function)?,
@@ -76,7 +77,8 @@ fn function(
     domain: Expr,
     codomain: Expr,
 ) -> Result<Expr, MemoryError>
-    ensures { IfOk result (λ t. tree_of t ≡ defined.function mult name.now (tree_of domain) (tree_of codomain)) }
+    ensures { IfOk result (λ t. tree_of t ≡ defined.function mult name.now (tree_of domain)
+        (tree_of codomain)) }
 {
     Ok(Expr::Pi {
         mark: Mark::Written,
@@ -188,7 +190,8 @@ fn sig(params: u32, ty: Expr) -> Sig
 
 /// A function of one argument, which is used many times.
 fn of_one(alloc: Global, domain: Expr, codomain: Expr) -> Result<Sig, MemoryError>
-    ensures { IfOk result (λ s. sig_of s ≡ defined.sig 0 (defined.arrow (tree_of domain) (tree_of codomain))) }
+    ensures { IfOk result (λ s. sig_of s ≡ defined.sig 0
+        (defined.arrow (tree_of domain) (tree_of codomain))) }
 {
     Ok(sig(0, arrow(alloc, domain, codomain)?))
 }

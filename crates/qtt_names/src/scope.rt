@@ -28,7 +28,8 @@ pub(crate) struct Imported {
     pub items: IndexMap<Name, GlobalId>,
 }
 
-/// The names that a module's text can use, but for local ones: its own items and those of its imports, Prim among them.
+/// The names that a module's text can use, but for local ones: its own items and those of its
+/// imports, Prim among them.
 #[derive(Drop)]
 pub struct Scope {
     pub(crate) module: ModuleId,
@@ -46,7 +47,8 @@ impl Scope {
         own: &ModuleText,
         imports: &[Exports],
     ) -> Result<Scope, MemoryError>
-        ensures { IfOk result (λ s. scope_seen s ≡ scope_of «module» (module_of own.now) (map export_of imports.now)) }
+        ensures { IfOk result (λ s. scope_seen s ≡ scope_of «module» (module_of own.now)
+            (map export_of imports.now)) }
     {
         Ok(Scope {
             module,
@@ -57,7 +59,8 @@ impl Scope {
     }
 }
 
-/// Puts a name behind those that are known, unless it is one of them, and answers the next number.
+/// Puts a name behind those that are known, unless it is one of them, and answers the next
+/// number.
 #[tactic(auto, using(crate::proofs::Owning::owning))]
 fn put(own: &mut IndexMap<Name, OwnItem>, name: &Name, item: OwnItem) -> Result<u32, MemoryError>
     ensures entries { OnOk result (own.new.entries ≡ with_item own.old.entries name.now item) }
@@ -80,7 +83,9 @@ fn put_constructors(
     first: u32,
     constructors: &[ConDecl],
 ) -> Result<u32, MemoryError>
-    ensures entries { OnOk result (own.new.entries ≡ with_items own.old.entries first (map constructor_name (map con_of constructors.now))) }
+    ensures entries { OnOk result
+        (own.new.entries ≡ with_items own.old.entries first
+        (map constructor_name (map con_of constructors.now))) }
     ensures next { IfOk result (λ n. n ≡ first + length constructors.now) }
 {
     let mut number = first;
@@ -94,10 +99,12 @@ fn put_constructors(
     Ok(number)
 }
 
-/// Puts the names that an item declares, of which the first has this number, and answers the next number.
+/// Puts the names that an item declares, of which the first has this number, and answers the
+/// next number.
 #[tactic(auto, using(crate::proofs::Owning::owning))]
 fn put_item(own: &mut IndexMap<Name, OwnItem>, number: u32, item: &Item) -> Result<u32, MemoryError>
-    ensures entries { OnOk result (own.new.entries ≡ with_items own.old.entries number (declared (item_of item.now))) }
+    ensures entries { OnOk result
+        (own.new.entries ≡ with_items own.old.entries number (declared (item_of item.now))) }
     ensures next { IfOk result (λ n. n ≡ number + length (declared (item_of item.now))) }
 {
     match item {
@@ -123,7 +130,8 @@ fn put_item(own: &mut IndexMap<Name, OwnItem>, number: u32, item: &Item) -> Resu
 /// The own items of a text by their names.
 #[tactic(auto, using(crate::proofs::Owning::owning))]
 fn own_items(alloc: Global, items: &[Item]) -> Result<IndexMap<Name, OwnItem>, MemoryError>
-    ensures { IfOk result (λ own. own.entries ≡ with_items [] 0 (flat_map declared (map item_of items.now))) }
+    ensures { IfOk result (λ own. own.entries ≡ with_items [] 0
+        (flat_map declared (map item_of items.now))) }
 {
     let mut own = IndexMap::new(alloc);
     let mut number = 0;

@@ -1,6 +1,6 @@
 //! What a used name stands for.
 
-ghost use Rattle.std.specs.Prelude.{◌≡◌, IfOk, None, Some, [], option_copied, option_map};
+ghost use Rattle.std.specs.Prelude.{◌≡◌, IfOk, None, Some, option_copied, option_map};
 ghost use Rattle.qtt_names.specs.Scope.{same_name};
 ghost use Rattle.qtt_names.specs.Target.{with_one, imported as what_imports_have, own_item, own_or, global as no_local, by_parts, in_module, is_source, local_place, split_at_dot};
 ghost use Rattle.qtt_names.specs.View.{Gives, scope as scope_seen, names_of, unchanged, imported_of};
@@ -71,7 +71,8 @@ impl Scope {
     /// What the imports have of a name, looked up in one module of them or in all.
     #[tactic(auto, using(crate::proofs::Looking::found))]
     fn imported(&self, of: Option<&str>, name: &Name) -> Found
-        ensures { result ≡ what_imports_have (scope_seen self.now).imports (option_copied of.entry) name.now }
+        ensures { result ≡ what_imports_have (scope_seen self.now).imports
+            (option_copied of.entry) name.now }
     {
         let mut found = Found::Nothing;
         for import in &self.imports {
@@ -130,7 +131,8 @@ fn local(locals: &[Name], name: &Name) -> Option<usize>
 impl Resolver<'_> {
     /// What an item of the module itself stands for, or nothing.
     fn own(&self, name: &Name) -> Found
-        ensures { result ≡ own_or (scope_seen self.now.scope.now) (own_item (scope_seen self.now.scope.now) self.now.items name.now) Found.Nothing }
+        ensures { result ≡ own_or (scope_seen self.now.scope.now)
+            (own_item (scope_seen self.now.scope.now) self.now.items name.now) Found.Nothing }
     {
         match self.scope.own_item(self.items, name) {
             Some(item) => self.scope.own_target(item),
@@ -150,7 +152,8 @@ impl Resolver<'_> {
 
     /// What a name of this module stands for.
     fn qualified(&self, within: &str, name: &Name) -> Found
-        ensures { result ≡ in_module (scope_seen self.now.scope.now) self.now.items within.now name.now }
+        ensures { result ≡ in_module (scope_seen self.now.scope.now) self.now.items within.now
+            name.now }
     {
         if is_named(&self.scope.name, within) {
             self.own(name)
@@ -162,7 +165,8 @@ impl Resolver<'_> {
     /// What a name that is no local one stands for.
     #[tactic(auto, unfolding(crate::specs::Target::global))]
     fn global(&self, path: &Name) -> Result<Found, MemoryError>
-        ensures { IfOk result (λ found. found ≡ no_local (scope_seen self.now.scope.now) self.now.items path.now) }
+        ensures { IfOk result (λ found. found ≡ no_local
+            (scope_seen self.now.scope.now) self.now.items path.now) }
     {
         match split(path.as_str()) {
             None => Ok(self.plain(path)),

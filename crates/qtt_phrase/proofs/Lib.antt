@@ -1,3 +1,4 @@
+pub mod Chained
 pub mod Exact
 pub mod Runs
 pub mod Forms

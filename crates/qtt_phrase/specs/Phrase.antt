@@ -42,7 +42,8 @@ abbrev pub ◌or◌ : {T F A : Type 0} → Phrase T F A → Phrase T F A → Phr
 -- any number of them
 abbrev pub Many : {T F A : Type 0} → Phrase T F A → Phrase T F (List A)
 Many P ts [] o = (ts ≡ []) × (None ≡ o)
-Many P ts (a ∷ more) o = (us vs : List _) × (p q : Option _) × (ts ≡ us ++ vs) × P us a p × Many P vs more q × (first p q ≡ o)
+Many P ts (a ∷ more) o = (us vs : List _) × (p q : Option _) × (ts ≡ us ++ vs) × P us a p × Many P vs more q ×
+    (first p q ≡ o)
 
 -- at least one
 abbrev pub Some_of : {T F A : Type 0} → Phrase T F A → Phrase T F (A × List A)
@@ -50,9 +51,12 @@ Some_of P = P then Many P
 
 -- Any number of them, each as the state asks in which the ones before it leave the reader: `goes` tells
 -- the states in which another one may come, and `ends` those in which there need be none.
-abbrev pub Run : {T F A S : Type 0} → (S → Bool) → (S → Bool) → (S → A → S) → (S → Phrase T F A) → S → Phrase T F (List A)
+abbrev pub Run : {T F A S : Type 0} → (S → Bool) → (S → Bool) → (S → A → S) →
+    (S → Phrase T F A) → S → Phrase T F (List A)
 Run ends goes next P s ts [] o = (ts ≡ []) × (ends s ≡ true) × (None ≡ o)
-Run ends goes next P s ts (a ∷ more) o = (us vs : List _) × (p q : Option _) × (ts ≡ us ++ vs) × (goes s ≡ true) × P s us a p × Run ends goes next P (next s a) vs more q × (first p q ≡ o)
+Run ends goes next P s ts (a ∷ more) o =
+    (us vs : List _) × (p q : Option _) × (ts ≡ us ++ vs) × (goes s ≡ true) × P s us a p × Run ends goes next P
+    (next s a) vs more q × (first p q ≡ o)
 
 -- a phrase that may not be there, with the fault of its first token
 abbrev pub Above : {T F A : Type 0} → (T → F) → Phrase T F A → Phrase T F A
@@ -70,7 +74,8 @@ Placed place P ts c o = (x : _) × (r : List _) × (ts ≡ x ∷ r) × (place x 
 abbrev pub BeginsSome : {T F A : Type 0} → Phrase T F A → List T → Type 0
 BeginsSome P front = (more : List _) × (a : _) × (o : Option _) × P (front ++ more) a o
 
--- the rest begins with the first bad token: some phrase begins with the tokens before it, and none with that one too
+-- the rest begins with the first bad token: some phrase begins with the tokens before it, and none with that one
+-- too
 pub record FirstBad {T F A : Type 0} (P : Phrase T F A) (ls rest : List T) : Type 0 where
   pub front : List T
   pub parts : ls ≡ front ++ rest

@@ -6,7 +6,8 @@ pub data Kind : Type 0 where
   unexpected : Kind
   too_deep : Kind
 
--- a value and the tokens after it; or the tokens from the bad one on; or a fault and the tokens after the one that settles it
+-- a value and the tokens after it; or the tokens from the bad one on; or a fault and the tokens after the one
+-- that settles it
 pub data Read (T F A : Type 0) : Type 0 where
   got : A → List T → Read T F A
   bad : Kind → List T → Read T F A
@@ -54,12 +55,16 @@ abbrev pub ended : {T F A : Type 0} → Bool → Reader T F (List A)
 ended ends ls = cond ends (got [] ls) (bad unexpected ls)
 
 -- at most so many of them
-abbrev pub run_at : {T F A S : Type 0} → (S → Bool) → (S → Bool) → (S → A → S) → (S → T → Bool) → (S → Reader T F A) → ℕ → S → Reader T F (List A)
+abbrev pub run_at : {T F A S : Type 0} → (S → Bool) → (S → Bool) → (S → A → S) → (S → T → Bool) →
+    (S → Reader T F A) → ℕ → S → Reader T F (List A)
 run_at ends goes next test p zero s ls = ended (ends s) ls
-run_at ends goes next test p (suc n) s ls = cond (goes s && begins (test s) ls) (p s ls >>= λ a r. run_at ends goes next test p n (next s a) r >>= λ b t. got (a ∷ b) t) (ended (ends s) ls)
+run_at ends goes next test p (suc n) s ls =
+    cond (goes s && begins (test s) ls)
+    (p s ls >>= λ a r. run_at ends goes next test p n (next s a) r >>= λ b t. got (a ∷ b) t) (ended (ends s) ls)
 
 -- as many as there are
-abbrev pub all_at : {T F A S : Type 0} → (S → Bool) → (S → Bool) → (S → A → S) → (S → T → Bool) → (S → Reader T F A) → S → Reader T F (List A)
+abbrev pub all_at : {T F A S : Type 0} → (S → Bool) → (S → Bool) → (S → A → S) → (S → T → Bool) →
+    (S → Reader T F A) → S → Reader T F (List A)
 all_at ends goes next test p s ls = run_at ends goes next test p (length ls) s ls
 
 abbrev pub many_at : {T F A : Type 0} → (T → Bool) → Reader T F A → Reader T F (List A)
@@ -72,7 +77,8 @@ counted_at next test p s = all_at (λ _. true) (λ _. true) next (λ _. test) p 
 -- a token that opens a level, where one may
 abbrev pub opening_at : {T F A : Type 0} → Bool → (T → Bool) → (T → A) → Reader T F A
 opening_at may is value [] = bad unexpected []
-opening_at may is value (x ∷ ls) = cond (is x) (cond may (got (value x) ls) (bad too_deep (x ∷ ls))) (bad unexpected (x ∷ ls))
+opening_at may is value (x ∷ ls) =
+    cond (is x) (cond may (got (value x) ls) (bad too_deep (x ∷ ls))) (bad unexpected (x ∷ ls))
 
 -- a phrase, with the place of its first token
 abbrev pub placed_at : {T S F A : Type 0} → (T → S) → Reader T F A → Reader T F (S × A)

@@ -33,7 +33,8 @@ configured-fine {c = c} f = record {
     count (Key.h i) s = ≼-of (f.counted i)
 
 -- the same continuations at exact uses
-waiting-waits : {E : Env} {R A : Term} {m : Io} {ks : List Term} {u : Use} → Waiting E R m A ks u → (w : Use) × Waits E R m A ks w × AtMost [] w u
+waiting-waits : {E : Env} {R A : Term} {m : Io} {ks : List Term} {u : Use} → Waiting E R m A ks u →
+    (w : Use) × Waits E R m A ks w × AtMost [] w u
 waiting-waits (Waiting.none c) = (zero_use, Waits.none c, λ x s. tt)
 waiting-waits (Waiting.more {u = u} {w = w} h ws) =
     let (z, t, a) = has-typed h in
@@ -59,6 +60,7 @@ fine-configured {c = c} f =
       typed = t;
       waits = r;
       counted = λ h.
-          flag-sum (w (Key.h h)) (z (Key.h h)) (f.use_of_term (Key.h h)) (f.use_of_waiting (Key.h h)) (open_use c.tapes h) (flags c.tapes h)
+          flag-sum (w (Key.h h)) (z (Key.h h)) (f.use_of_term (Key.h h)) (f.use_of_waiting (Key.h h))
+          (open_use c.tapes h) (flags c.tapes h)
           (a (Key.h h) tt) (b (Key.h h) tt) (f.counted (Key.h h) tt);
     }

@@ -31,12 +31,16 @@ kept_lambda z w h = grind arith
 
 module _ {E : Env} where
   -- a variable that is closed is used
-  closes-use : {Γ : Ctx} {C : Term} {u : Use} (a : Mult × Term) → Has E Part.run (a ∷ Γ) (closed_after (var 0)) C u → 𝟙 ≼ u (Key.v 0)
-  closes-use {u = u} a (Has.at_node (Rule.named there m (Args.more {u = z} Args.none)) (HasAll.more e (Has.at_var s n d g) f HasAll.none) c h) =
+  closes-use : {Γ : Ctx} {C : Term} {u : Use} (a : Mult × Term) →
+      Has E Part.run (a ∷ Γ) (closed_after (var 0)) C u → 𝟙 ≼ u (Key.v 0)
+  closes-use {u = u} a (Has.at_node (Rule.named there m (Args.more {u = z} Args.none))
+      (HasAll.more e (Has.at_var s n d g) f HasAll.none) c h) =
       one_closed (z (Key.v 0)) (u (Key.v 0)) (g (Key.v 0) tt) (h (Key.v 0) tt)
 
-  closes-next : {Γ : Ctx} {C : Term} {u : Use} (a b : Mult × Term) → Has E Part.run (a ∷ b ∷ Γ) (closed_after (var 1)) C u → 𝟙 ≼ u (Key.v 1)
-  closes-next {u = u} a b (Has.at_node (Rule.named there m (Args.more {u = z} Args.none)) (HasAll.more e (Has.at_var s n d g) f HasAll.none) c h) =
+  closes-next : {Γ : Ctx} {C : Term} {u : Use} (a b : Mult × Term) →
+      Has E Part.run (a ∷ b ∷ Γ) (closed_after (var 1)) C u → 𝟙 ≼ u (Key.v 1)
+  closes-next {u = u} a b (Has.at_node (Rule.named there m (Args.more {u = z} Args.none))
+      (HasAll.more e (Has.at_var s n d g) f HasAll.none) c h) =
       one_closed (z (Key.v 1)) (u (Key.v 1)) (g (Key.v 1) tt) (h (Key.v 1) tt)
 
   -- the handle of a continuation is used once
@@ -44,19 +48,27 @@ module _ {E : Env} where
       (B : Term) × (w : Use) × Has E Part.run ((𝟙, HandleTy) ∷ []) k B w × (w (Key.v 0) ≼ 𝟙)
   handle-fits (Has.at_node (Rule.named there m (Args.more (Args.more (Args.more (Args.more Args.none)))))
       (HasAll.more e₀ h₀ f₀ (HasAll.more e₁ h₁ f₁ (HasAll.more e₂ h₂ f₂ (HasAll.more e₃
-      (Has.at_node (Rule.lam {B = B} {w = w}) (HasAll.more d hA fA (HasAll.more g hk fk HasAll.none)) cv i) f₃ HasAll.none)))) c j) = (B, w, hk, fk.0)
+      (Has.at_node (Rule.lam {B = B} {w = w}) (HasAll.more d hA fA (HasAll.more g hk fk HasAll.none)) cv i) f₃
+      HasAll.none)))) c j) = (B, w, hk, fk.0)
 
   pure-none : {C : Term} {u : Use} → Has E Part.run ((𝟙, HandleTy) ∷ []) pure_unit C u → u (Key.v 0) ≼ 𝟙 → ⊥
-  pure-none {u = u} (Has.at_node (Rule.named there m (Args.more (Args.more {u = y} Args.none))) hs c h) k = none_below_one (y (Key.v 0)) (u (Key.v 0)) (h (Key.v 0) tt) k
+  pure-none {u = u} (Has.at_node (Rule.named there m (Args.more (Args.more {u = y} Args.none))) hs c h) k =
+      none_below_one (y (Key.v 0)) (u (Key.v 0)) (h (Key.v 0) tt) k
 
-  twice-many : {C : Term} {u : Use} → Has E Part.run ((𝟙, HandleTy) ∷ []) (then_do (closed_after (var 0)) (closed_after (var 1))) C u → u (Key.v 0) ≼ 𝟙 → ⊥
-  twice-many {u = u} (Has.at_node (Rule.named there m (Args.more (Args.more (Args.more {u = y} (Args.more {u = w} Args.none)))))
+  twice-many : {C : Term} {u : Use} →
+      Has E Part.run ((𝟙, HandleTy) ∷ []) (then_do (closed_after (var 0)) (closed_after (var 1))) C u →
+      u (Key.v 0) ≼ 𝟙 → ⊥
+  twice-many {u = u} (Has.at_node
+      (Rule.named there m (Args.more (Args.more (Args.more {u = y} (Args.more {u = w} Args.none)))))
       (HasAll.more e₀ h₀ f₀ (HasAll.more e₁ h₁ f₁ (HasAll.more e₂ ht f₂ (HasAll.more e₃
-      (Has.at_node (Rule.lam {w = z}) (HasAll.more d hA fA (HasAll.more g hk fk HasAll.none)) cv i) f₃ HasAll.none)))) c j) k =
-      two_above_one (y (Key.v 0)) (z (Key.v 1)) (w (Key.v 0)) (u (Key.v 0)) (closes-use (𝟙, HandleTy) ht) (closes-next (ω, UnitTy) (𝟙, HandleTy) hk)
+      (Has.at_node (Rule.lam {w = z}) (HasAll.more d hA fA (HasAll.more g hk fk HasAll.none)) cv i) f₃
+      HasAll.none)))) c j) k =
+      two_above_one (y (Key.v 0)) (z (Key.v 1)) (w (Key.v 0)) (u (Key.v 0)) (closes-use (𝟙, HandleTy) ht)
+      (closes-next (ω, UnitTy) (𝟙, HandleTy) hk)
       (kept_lambda (z (Key.v 1)) (w (Key.v 0)) (i (Key.v 0) tt)) (j (Key.v 0) tt) k
 
-closed-once : {E : Env} (h : ℕ) {js : List Judged} (u : Use) (k : ℕ) → Args (act_signature Action.closes).arguments closed (Tape h ▸ ε) js →
+closed-once : {E : Env} (h : ℕ) {js : List Judged} (u : Use) (k : ℕ) →
+    Args (act_signature Action.closes).arguments closed (Tape h ▸ ε) js →
     TypedAll E Part.run [] [] (Tape h ▸ ε) js → UseIs Part.run [] (sum_of js) u → u (Key.h k) ≡ unit (Key.h h) (Key.h k)
 closed-once {E} h u k (Args.more {u = z} Args.none) (TypedAll.more e t f TypedAll.none) i =
     i (Key.h k) tt ∙ ⊕-zero (z (Key.h k)) ∙ ((inverted E Part.run []).tape h _ z t).1 (Key.h k) tt
@@ -64,10 +76,12 @@ closed-once {E} h u k (Args.more {u = z} Args.none) (TypedAll.more e t f TypedAl
 pub handles_are_linear : (E : Env) → HandlesAreLinear E
 handles_are_linear E = record {
   open_tape = λ h.
-      Typed.by_rule (Rule.named tt tt (Args.more {u = unit (Key.h h)} Args.none))
-      (TypedAll.more refl (Typed.by_rule Rule.tape TypedAll.none (λ x s. sym (⊕-zero (unit (Key.h h) x)))) tt TypedAll.none)
+      Typed.by_rule (Rule.named refl tt (Args.more {u = unit (Key.h h)} Args.none))
+      (TypedAll.more refl (Typed.by_rule Rule.tape TypedAll.none (λ x s. sym (⊕-zero (unit (Key.h h) x)))) tt
+      TypedAll.none)
       (λ x s. sym (⊕-zero _ ∙ ⊕-zero (unit (Key.h h) x)));
-  used_once = λ h C u d k. let (js, there, m, a, hs, c, e) = (inverted E Part.run []).named (Named.act Action.closes) (Tape h ▸ ε) C u d in closed-once h u k a hs e;
+  used_once = λ h C u d k. let (js, there, m, a, hs, c, e) =
+      (inverted E Part.run []).named (Named.act Action.closes 0) (Tape h ▸ ε) C u d in closed-once h u k a hs e;
   dropped = λ C u h. let (B, w, hk, f) = handle-fits (typed-has h) in pure-none hk f;
   closed_twice = λ C u h. let (B, w, hk, f) = handle-fits (typed-has h) in twice-many hk f;
 }

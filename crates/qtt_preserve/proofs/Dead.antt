@@ -6,7 +6,7 @@ use Rattle.qtt_usage.proofs.Mults.{≼-refl, ⊕-zero}
 use Rattle.qtt_term.specs.Term.{Term, Lam, Trap}
 use Rattle.qtt_term.specs.Signature.{Env}
 use Rattle.qtt_term.specs.Judgement.{Ctx, Part, Rule, Typed, TypedAll}
-use Rattle.qtt_term.specs.Infer.{is_dead}
+use Rattle.qtt_term.specs.Accepted.{is_dead}
 use Rattle.qtt_preserve.proofs.Inverted.{inverted}
 
 -- a Trap, or a function whose body is dead
@@ -29,15 +29,19 @@ out-binder : (q : Mult) (w : Use) (x : Key) → out (with_binder q w) x ≡ w x
 out-binder q w (Key.v i) = refl
 out-binder q w (Key.h i) = refl
 
-any-use : {E : Env} {t : Term} → Dead t → (Γ : Ctx) (C : Term) (u : Use) → Typed E Part.run Γ t C u → (w : Use) → Typed E Part.run Γ t C w
+any-use : {E : Env} {t : Term} → Dead t → (Γ : Ctx) (C : Term) (u : Use) → Typed E Part.run Γ t C u →
+    (w : Use) → Typed E Part.run Γ t C w
 any-use {E} (Dead.trap {A = A}) Γ C u h w =
     let (i, z, hA, c) = (inverted E Part.run Γ).trap A C u h in
-    Typed.conversion (Typed.by_rule (Rule.trap {any = w}) (TypedAll.more refl hA tt TypedAll.none) (λ x s. sym (⊕-zero (w x)))) c
+    Typed.conversion (Typed.by_rule (Rule.trap {any = w}) (TypedAll.more refl hA tt TypedAll.none)
+    (λ x s. sym (⊕-zero (w x)))) c
 any-use {E} (Dead.lam {q = q} {A = A} {b = b} d) Γ C u h w =
     let (i, B, y, z, hA, hb, f, c, e) = (inverted E Part.run Γ).lam q A b C u h in
     Typed.conversion
-    (Typed.by_rule Rule.lam (TypedAll.more refl hA tt (TypedAll.more refl (any-use d ((q, A) ∷ Γ) B z hb (with_binder q w)) (≼-refl q, tt) TypedAll.none))
+    (Typed.by_rule Rule.lam (TypedAll.more refl hA tt
+    (TypedAll.more refl (any-use d ((q, A) ∷ Γ) B z hb (with_binder q w)) (≼-refl q, tt) TypedAll.none))
     (λ x s. sym (⊕-zero _ ∙ ⊕-zero (out (with_binder q w) x) ∙ out-binder q w x))) c
 
-pub dead-any : {E : Env} {Γ : Ctx} {t C : Term} {u : Use} → is_dead t ≡ true → Typed E Part.run Γ t C u → (w : Use) → Typed E Part.run Γ t C w
+pub dead-any : {E : Env} {Γ : Ctx} {t C : Term} {u : Use} → is_dead t ≡ true → Typed E Part.run Γ t C u →
+    (w : Use) → Typed E Part.run Γ t C w
 dead-any {Γ = Γ} {t = t} {C = C} {u = u} e h w = any-use (dead t e) Γ C u h w

@@ -21,7 +21,7 @@ use Rattle.qtt_preserve.specs.Configuration.{open_use}
 use Rattle.qtt_preserve.specs.Within.{Has, HasAll}
 use Rattle.qtt_preserve.proofs.Plain.{there-some}
 use Rattle.qtt_preserve.proofs.Sound.{type-closed, sound_of, Bodied, bodied_of, Sound}
-use Rattle.qtt_preserve.proofs.Run.{as_use, Waiting, Fine, Kept, turn_kept}
+use Rattle.qtt_preserve.proofs.Run.{as_use, Waiting, Fine, Kept, turn_keeps, turn_kept}
 
 abbrev pub opens-of : List Taped → List Bool
 opens-of [] = []
@@ -31,13 +31,15 @@ opens-of (t ∷ T) = t.is_open ∷ opens-of T
 abbrev pub Tracked : Config → Type 0
 Tracked c = open_after [] c.events ≡ Some (opens-of c.tapes)
 
-open-append : (bs : List Bool) (es ds : List Event) (cs : List Bool) → open_after bs es ≡ Some cs → open_after bs (es ++ ds) ≡ open_after cs ds
+open-append : (bs : List Bool) (es ds : List Event) (cs : List Bool) → open_after bs es ≡ Some cs →
+    open_after bs (es ++ ds) ≡ open_after cs ds
 open-append bs [] ds cs h = ap (λ bs. open_after bs ds) (some-injective h)
 open-append bs (e ∷ es) ds cs h =
     let r = chain-some (after_event e bs) (λ ds. open_after ds es) cs h in
     rw r.1 (open-append r.0 es ds cs r.2)
 
-chain-last : (bs : List Bool) (es : List Event) (e : Event) (cs : List Bool) → open_after bs es ≡ Some cs → open_after bs (es ++ e ∷ []) ≡ after_event e cs
+chain-last : (bs : List Bool) (es : List Event) (e : Event) (cs : List Bool) → open_after bs es ≡ Some cs →
+    open_after bs (es ++ e ∷ []) ≡ after_event e cs
 chain-last bs es e cs h = open-append bs es (e ∷ []) cs h ∙ last (after_event e cs)
   where
     last : (o : Option (List Bool)) → chain o (λ cs. Some cs) ≡ o
@@ -69,7 +71,11 @@ closing-write zero s (t ∷ T) U e =
 closing-write (suc h) s (t ∷ T) U e =
     let r = chain-some (at_open h (with_line s) T) (λ us. Some (t ∷ us)) U e in
     let w = closing-write h s T r.0 r.1 in
-    record { closed_list = t.is_open ∷ w.closed_list; at = rw w.at refl; same = ap opens-of (sym (some-injective r.2)) ∙ ap (λ bs. t.is_open ∷ bs) w.same }
+    record {
+      closed_list = t.is_open ∷ w.closed_list;
+      at = rw w.at refl;
+      same = ap opens-of (sym (some-injective r.2)) ∙ ap (λ bs. t.is_open ∷ bs) w.same;
+    }
 
 abbrev pub Goes-on : Turn → Type 0
 Goes-on (Turn.goes d) = Tracked d
@@ -87,22 +93,25 @@ read-disciplined : (c : Config) (bs : List ℕ) → Tracked c → Goes-on (read 
 read-disciplined c [] d = d
 read-disciplined c (b ∷ bs) d = line-disciplined (is_line (line_of (b ∷ bs))) _ _ d tt
 
-tape-disciplined : (c : Config) (t : Term) (e : Event) (o : Option (List Taped)) → ((U : List Taped) → o ≡ Some U → open_after [] (c.events ++ e ∷ []) ≡ Some (opens-of U)) →
+tape-disciplined : (c : Config) (t : Term) (e : Event) (o : Option (List Taped)) →
+    ((U : List Taped) → o ≡ Some U → open_after [] (c.events ++ e ∷ []) ≡ Some (opens-of U)) →
     Goes-on (use_tape c t e o)
 tape-disciplined c t e (Some U) h = h U refl
 tape-disciplined c t e None h = tt
 
 perform-disciplined : (c : Config) (t : Term) → Tracked c → Goes-on (perform c t)
-perform-disciplined c (Act (Action.bind m n) (A ▸ B ▸ t ▸ k ▸ ε)) d = d
-perform-disciplined c (Act (Action.pure m) (A ▸ v ▸ ε)) d = resume-disciplined m v c c.waiting d
-perform-disciplined c (Act Action.put_line (TextLit s ▸ ε)) d = chain-last [] c.events (Event.line s) (opens-of c.tapes) d
-perform-disciplined c (Act Action.get_line ε) d = read-disciplined c c.input d
-perform-disciplined c (Act Action.opens (TextLit s ▸ ε)) d =
+perform-disciplined c (Act (Action.bind m n) k (A ▸ B ▸ t ▸ next ▸ ε)) d = d
+perform-disciplined c (Act (Action.pure m) k (A ▸ v ▸ ε)) d = resume-disciplined m v c c.waiting d
+perform-disciplined c (Act Action.put_line k (TextLit s ▸ ε)) d =
+    chain-last [] c.events (Event.line s) (opens-of c.tapes) d
+perform-disciplined c (Act Action.get_line k ε) d = read-disciplined c c.input d
+perform-disciplined c (Act Action.opens k (TextLit s ▸ ε)) d =
     chain-last [] c.events (Event.opened s) (opens-of c.tapes) d ∙ ap Some (sym (opens-new c.tapes _ refl))
-perform-disciplined c (Act Action.writes (Tape h ▸ TextLit s ▸ ε)) d =
+perform-disciplined c (Act Action.writes k (Tape h ▸ TextLit s ▸ ε)) d =
     tape-disciplined c _ (Event.wrote h s) (at_open h (with_line s) c.tapes)
-    (λ U e. let w = closing-write h s c.tapes U e in chain-last [] c.events (Event.wrote h s) (opens-of c.tapes) d ∙ rw w.at (ap Some (sym w.same)))
-perform-disciplined c (Act Action.closes (Tape h ▸ ε)) d =
+    (λ U e. let w = closing-write h s c.tapes U e in chain-last [] c.events (Event.wrote h s)
+    (opens-of c.tapes) d ∙ rw w.at (ap Some (sym w.same)))
+perform-disciplined c (Act Action.closes k (Tape h ▸ ε)) d =
     tape-disciplined c _ (Event.closed_tape h) (at_open h shut c.tapes)
     (λ U e. chain-last [] c.events (Event.closed_tape h) (opens-of c.tapes) d ∙ closing-shut h c.tapes U e)
 perform-disciplined c _ d = tt
@@ -123,7 +132,8 @@ closing-here (b ∷ bs) cs = rw (closing-here bs cs) refl
 
 -- one number after those of bs, and then those of T
 one-more : (bs : List Bool) (b : Bool) (T : List Taped) →
-    open_after ((bs ++ b ∷ []) ++ opens-of T) (closes_from (length (bs ++ b ∷ [])) T) ≡ Some ((bs ++ b ∷ []) ++ opens-of (all_shut T)) →
+    open_after ((bs ++ b ∷ []) ++ opens-of T) (closes_from (length (bs ++ b ∷ [])) T) ≡ Some
+    ((bs ++ b ∷ []) ++ opens-of (all_shut T)) →
     open_after (bs ++ b ∷ opens-of T) (closes_from (suc (length bs)) T) ≡ Some (bs ++ b ∷ opens-of (all_shut T))
 one-more bs b T h =
     ap (λ cs. open_after cs (closes_from (suc (length bs)) T)) (sym (append_assoc bs (b ∷ []) (opens-of T)))
@@ -131,18 +141,23 @@ one-more bs b T h =
     ∙ h ∙ ap Some (append_assoc bs (b ∷ []) (opens-of (all_shut T)))
 
 close-one : (bs : List Bool) (b : Bool) (T : List Taped) →
-    ((c : Bool) → open_after ((bs ++ c ∷ []) ++ opens-of T) (closes_from (length (bs ++ c ∷ [])) T) ≡ Some ((bs ++ c ∷ []) ++ opens-of (all_shut T))) →
-    open_after (bs ++ b ∷ opens-of T) (cond b (Event.closed_tape (length bs) ∷ closes_from (suc (length bs)) T) (closes_from (suc (length bs)) T))
+    ((c : Bool) → open_after ((bs ++ c ∷ []) ++ opens-of T) (closes_from (length (bs ++ c ∷ [])) T) ≡ Some
+    ((bs ++ c ∷ []) ++ opens-of (all_shut T))) →
+    open_after (bs ++ b ∷ opens-of T)
+    (cond b (Event.closed_tape (length bs) ∷ closes_from (suc (length bs)) T)
+    (closes_from (suc (length bs)) T))
     ≡ Some (bs ++ false ∷ opens-of (all_shut T))
 close-one bs true T h = rw (closing-here bs (opens-of T)) (one-more bs false T (h false))
 close-one bs false T h = one-more bs false T (h false)
 
-closes-shut : (T : List Taped) (bs : List Bool) → open_after (bs ++ opens-of T) (closes_from (length bs) T) ≡ Some (bs ++ opens-of (all_shut T))
+closes-shut : (T : List Taped) (bs : List Bool) →
+    open_after (bs ++ opens-of T) (closes_from (length bs) T) ≡ Some (bs ++ opens-of (all_shut T))
 closes-shut [] bs = refl
 closes-shut (t ∷ T) bs = close-one bs t.is_open T (λ c. closes-shut T (bs ++ c ∷ []))
 
 end-tracked : (v : Verdict) (c : Config) → Tracked c → Tracked (at_end v c)
-end-tracked (Verdict.trapped k) c d = open-append [] c.events (closes_from 0 c.tapes) (opens-of c.tapes) d ∙ closes-shut c.tapes []
+end-tracked (Verdict.trapped k) c d =
+    open-append [] c.events (closes_from 0 c.tapes) (opens-of c.tapes) d ∙ closes-shut c.tapes []
 end-tracked Verdict.ended c d = d
 end-tracked Verdict.stuck c d = d
 end-tracked Verdict.running c d = d
@@ -166,37 +181,75 @@ off-closed (t ∷ T) h = (off-bool t.is_open (h 0), off-closed T (λ n. h (suc n
 abbrev Trapped : Verdict → Type 0
 Trapped v = (k : Cause) × (v ≡ Verdict.trapped k)
 
+-- where a run was not trapped, it ends in a typed configuration
+abbrev pub EndsFine : Env → Term → Run → Type 0
+EndsFine E R r = (Trapped r.verdict → ⊥) → Fine E R r.last.term r.last.waiting r.last.tapes
+
 pub record RunGood (E : Env) (R : Term) (r : Run) : Type 0 where
   pub free : r.verdict ≢ Verdict.stuck
-  pub fine : (Trapped r.verdict → ⊥) → Fine E R r.last.term r.last.waiting r.last.tapes
   pub events : Tracked r.last
   pub ended : r.verdict ≡ Verdict.ended → AllClosed (opens-of r.last.tapes)
   pub trapped : Trapped r.verdict → AllClosed (opens-of r.last.tapes)
 
 module _ {E : Env} (R : Term) where
-  halted-good : (n : ℕ) (c : Config) (v : Verdict) → Kept E R c (Turn.halts v) → Fine E R c.term c.waiting c.tapes → Tracked c →
+  -- ---- whatever bodies there are
+  halted-fine : (n : ℕ) (c : Config) (v : Verdict) → Fine E R c.term c.waiting c.tapes →
+      EndsFine E R (record { verdict = v; count = n; last = at_end v c })
+  halted-fine n c Verdict.ended f = λ h. f
+  halted-fine n c (Verdict.trapped x) f = λ h. absurd (h (x, refl))
+  halted-fine n c Verdict.stuck f = λ h. f
+  halted-fine n c Verdict.running f = λ h. f
+
+  stopped-fine : (n : ℕ) (c : Config) (t : Turn) → Fine E R c.term c.waiting c.tapes → EndsFine E R (stopped n c t)
+  stopped-fine n c (Turn.halts v) f = halted-fine n c v f
+  stopped-fine n c (Turn.goes x) f = λ h. f
+
+  going-fine : Sound E → (n : ℕ) (c : Config) (t : Turn) (next : Config → Run) → turn E c ≡ t →
+      Fine E R c.term c.waiting c.tapes →
+      ((x : Config) → Fine E R x.term x.waiting x.tapes → EndsFine E R (next x)) → EndsFine E R (going n c t next)
+  going-fine sound n c (Turn.halts v) next e f h = halted-fine n c v f
+  going-fine sound n c (Turn.goes x) next e f h = h x (turn_keeps sound R c f (Turn.goes x) e (λ q. cc q))
+
+  run-fine : Sound E → (more n : ℕ) (c : Config) → Fine E R c.term c.waiting c.tapes → EndsFine E R (run_on more E n c)
+  run-fine sound zero n c f = stopped-fine n c (turn E c) f
+  run-fine sound (suc more) n c f =
+      going-fine sound n c (turn E c) (run_on more E (suc n)) refl f (λ x g. run-fine sound more (suc n) x g)
+
+  -- ---- where each function has its body
+  halted-good : (n : ℕ) (c : Config) (v : Verdict) → Kept E R c (Turn.halts v) →
+      Fine E R c.term c.waiting c.tapes → Tracked c →
       RunGood E R (record { verdict = v; count = n; last = at_end v c })
   halted-good n c Verdict.ended k f d =
-      record { free = λ e. cc e; fine = λ h. f; events = d; ended = λ e. off-closed c.tapes k; trapped = λ h. absurd (cc h.1) }
+      record { free = λ e. cc e; events = d; ended = λ e. off-closed c.tapes k; trapped = λ h. absurd (cc h.1) }
   halted-good n c (Verdict.trapped x) k f d =
-      record { free = λ e. cc e; fine = λ h. absurd (h (x, refl)); events = end-tracked (Verdict.trapped x) c d; ended = λ e. absurd (cc e); trapped = λ h. all-shut-closed c.tapes }
+      record {
+        free = λ e. cc e;
+        events = end-tracked (Verdict.trapped x) c d;
+        ended = λ e. absurd (cc e);
+        trapped = λ h. all-shut-closed c.tapes;
+      }
   halted-good n c Verdict.stuck k f d = absurd k
   halted-good n c Verdict.running k f d = absurd k
 
-  stopped-good : (n : ℕ) (c : Config) (t : Turn) → Kept E R c t → Fine E R c.term c.waiting c.tapes → Tracked c → RunGood E R (stopped n c t)
+  stopped-good : (n : ℕ) (c : Config) (t : Turn) → Kept E R c t → Fine E R c.term c.waiting c.tapes → Tracked c →
+      RunGood E R (stopped n c t)
   stopped-good n c (Turn.halts v) k f d = halted-good n c v k f d
   stopped-good n c (Turn.goes x) k f d =
-      record { free = λ e. cc e; fine = λ h. f; events = d; ended = λ e. absurd (cc e); trapped = λ h. absurd (cc h.1) }
+      record { free = λ e. cc e; events = d; ended = λ e. absurd (cc e); trapped = λ h. absurd (cc h.1) }
 
-  going-good : (n : ℕ) (c : Config) (t : Turn) (next : Config → Run) → Kept E R c t → Goes-on t → Fine E R c.term c.waiting c.tapes → Tracked c →
-      ((x : Config) → Fine E R x.term x.waiting x.tapes → Tracked x → RunGood E R (next x)) → RunGood E R (going n c t next)
+  going-good : (n : ℕ) (c : Config) (t : Turn) (next : Config → Run) → Kept E R c t → Goes-on t →
+      Fine E R c.term c.waiting c.tapes → Tracked c →
+      ((x : Config) → Fine E R x.term x.waiting x.tapes → Tracked x → RunGood E R (next x)) →
+      RunGood E R (going n c t next)
   going-good n c (Turn.halts v) next k g f d h = halted-good n c v k f d
   going-good n c (Turn.goes x) next k g f d h = h x k g
 
-  run-good : Sound E → Bodied E → (more n : ℕ) (c : Config) → Fine E R c.term c.waiting c.tapes → Tracked c → RunGood E R (run_on more E n c)
+  run-good : Sound E → Bodied E → (more n : ℕ) (c : Config) → Fine E R c.term c.waiting c.tapes → Tracked c →
+      RunGood E R (run_on more E n c)
   run-good sound whole zero n c f d = stopped-good n c (turn E c) (turn_kept sound R whole c f) f d
   run-good sound whole (suc more) n c f d =
-      going-good n c (turn E c) (run_on more E (suc n)) (turn_kept sound R whole c f) (turn-disciplined E c d) f d (λ x g h. run-good sound whole more (suc n) x g h)
+      going-good n c (turn E c) (run_on more E (suc n)) (turn_kept sound R whole c f) (turn-disciplined E c d) f d
+      (λ x g h. run-good sound whole more (suc n) x g h)
 
 -- ---- a main
 pub main_fine : {E : Env} → WellFormed E → (main : GlobalId) → IsMain E main → Fine E UnitTy (Def main) [] []
@@ -205,7 +258,8 @@ main_fine {E} w main m = record {
   type = UnitTy;
   use_of_term = zero_use;
   use_of_waiting = zero_use;
-  has = Has.at_node (Rule.named (there-some m.there) (subst (λ D. Usable Part.run D.mult) (sym is) m.usable) Args.none) HasAll.none typed (λ x s. tt);
+  has = Has.at_node (Rule.named (there-some m.there) (subst (λ D. Usable Part.run D.mult) (sym is) m.usable)
+      Args.none) HasAll.none typed (λ x s. tt);
   waits = Waiting.none Conv.same;
   counted = count;
 }
@@ -216,11 +270,19 @@ main_fine {E} w main m = record {
     typed : Conv E (sub closed (definition_at E main).type) (IoTy Io.io UnitTy)
     typed =
         subst (λ D. Conv E (sub closed D.type) (IoTy Io.io UnitTy)) (sym is)
-        (subst (λ A. Conv E A (IoTy Io.io UnitTy)) (sym (closed-kept m.definition.type (type-closed (w.definitions main m.definition m.there)) closed)) m.typed)
+        (subst (λ A. Conv E A (IoTy Io.io UnitTy))
+        (sym (closed-kept m.definition.type (type-closed (w.definitions main m.definition m.there)) closed))
+        m.typed)
 
     count : AtMost [] (λ x. zero_use x ⊕ zero_use x) (as_use [])
     count (Key.v i) s = tt
     count (Key.h i) s = tt
 
-pub full_good : {E : Env} → WellFormed E → Complete E → (main : GlobalId) → IsMain E main → (n : ℕ) (input : List ℕ) → RunGood E UnitTy (full n E main input)
-full_good {E} w whole main m n input = run-good UnitTy (sound_of w) (bodied_of E whole) n 0 (start main input) (main_fine w main m) refl
+pub full_good : {E : Env} → WellFormed E → Complete E → (main : GlobalId) → IsMain E main →
+    (n : ℕ) (input : List ℕ) → RunGood E UnitTy (full n E main input)
+full_good {E} w whole main m n input =
+    run-good UnitTy (sound_of w) (bodied_of E whole) n 0 (start main input) (main_fine w main m) refl
+
+pub full_fine : {E : Env} → WellFormed E → (main : GlobalId) → IsMain E main →
+    (n : ℕ) (input : List ℕ) → EndsFine E UnitTy (full n E main input)
+full_fine {E} w main m n input = run-fine UnitTy (sound_of w) n 0 (start main input) (main_fine w main m)

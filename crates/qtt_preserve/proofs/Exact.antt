@@ -18,37 +18,48 @@ within Part.erased Γ w u h = tt
 
 mutual
   pub typed-has : {E : Env} {p : Part} {Γ : Ctx} {t A : Term} {u : Use} → Typed E p Γ t A u → Has E p Γ t A u
-  typed-has {p = p} {Γ = Γ} {u = u} (Typed.variable {i = i} s m e) = Has.at_var s m Conv.same (within p Γ (unit (Key.v i)) u e)
-  typed-has {p = p} {Γ = Γ} {u = u} (Typed.by_rule {js = js} {own = own} r hs e) = Has.at_node r (all-has hs) Conv.same (within p Γ (total own js) u e)
-  typed-has {E} {p = p} {u = u} (Typed.conversion {B = B} h c) = has_as E B u (typed-has h) c (always p λ x s. ≼-refl (u x))
+  typed-has {p = p} {Γ = Γ} {u = u} (Typed.variable {i = i} s m e) =
+      Has.at_var s m Conv.same (within p Γ (unit (Key.v i)) u e)
+  typed-has {p = p} {Γ = Γ} {u = u} (Typed.by_rule {js = js} {own = own} r hs e) =
+      Has.at_node r (all-has hs) Conv.same (within p Γ (total own js) u e)
+  typed-has {E} {p = p} {u = u} (Typed.conversion {B = B} h c) =
+      has_as E B u (typed-has h) c (always p λ x s. ≼-refl (u x))
 
-  all-has : {E : Env} {p : Part} {Γ : Ctx} {ns : List ℕ} {ts : Terms} {js : List Judged} → TypedAll E p Γ ns ts js → HasAll E p Γ ns ts js
+  all-has : {E : Env} {p : Part} {Γ : Ctx} {ns : List ℕ} {ts : Terms} {js : List Judged} →
+      TypedAll E p Γ ns ts js → HasAll E p Γ ns ts js
   all-has TypedAll.none = HasAll.none
   all-has (TypedAll.more e h f hs) = HasAll.more e (typed-has h) f (all-has hs)
 
 -- the same at smaller uses
 data Reused (p : Part) (Γ : Ctx) : List Judged → List Judged → Type 0 where
   none : Reused p Γ [] []
-  more : {j : Judged} {w : Use} {js ks : List Judged} → InRun (under p j.mult) (AtMost (ext Γ j.binds) w j.uses) → Reused p Γ js ks →
+  more : {j : Judged} {w : Use} {js ks : List Judged} → InRun (under p j.mult) (AtMost (ext Γ j.binds) w j.uses) →
+      Reused p Γ js ks →
       Reused p Γ (j ∷ js) (record j { uses = w } ∷ ks)
 
 at_most-out : (Γ : Ctx) (b : Mult × Term) (w u : Use) → AtMost (b ∷ Γ) w u → AtMost Γ (out w) (out u)
 at_most-out Γ b w u h (Key.v i) s = h (Key.v (suc i)) s
 at_most-out Γ b w u h (Key.h i) s = h (Key.h i) s
 
-at_most-outs : (Γ : Ctx) (Θ : Tele) (w u : Use) → AtMost (ext Γ Θ) w u → AtMost Γ (outs (length Θ) w) (outs (length Θ) u)
+at_most-outs : (Γ : Ctx) (Θ : Tele) (w u : Use) → AtMost (ext Γ Θ) w u →
+    AtMost Γ (outs (length Θ) w) (outs (length Θ) u)
 at_most-outs Γ [] w u h = h
 at_most-outs Γ (b ∷ Θ) w u h = at_most-out Γ b (outs (length Θ) w) (outs (length Θ) u) (at_most-outs (b ∷ Γ) Θ w u h)
 
 fit-less : (Γ : Ctx) (Θ : Tele) (w u : Use) → AtMost (ext Γ Θ) w u → BindersFit Θ u → BindersFit Θ w
 fit-less Γ [] w u h f = tt
-fit-less Γ (b ∷ Θ) w u h f =
-    (≼-trans (outs (length Θ) w (Key.v 0)) (outs (length Θ) u (Key.v 0)) b.0 (at_most-outs (b ∷ Γ) Θ w u h (Key.v 0) tt) f.0, fit-less (b ∷ Γ) Θ w u h f.1)
+fit-less Γ (b ∷ Θ) w u h f = (
+  ≼-trans (outs (length Θ) w (Key.v 0)) (outs (length Θ) u (Key.v 0)) b.0
+      (at_most-outs (b ∷ Γ) Θ w u h (Key.v 0) tt) f.0,
+  fit-less (b ∷ Γ) Θ w u h f.1,
+)
 
-share-less : (Γ : Ctx) (j : Judged) (w : Use) → InRun (under Part.run j.mult) (AtMost (ext Γ j.binds) w j.uses) → AtMost Γ (share (record j { uses = w })) (share j)
+share-less : (Γ : Ctx) (j : Judged) (w : Use) → InRun (under Part.run j.mult) (AtMost (ext Γ j.binds) w j.uses) →
+    AtMost Γ (share (record j { uses = w })) (share j)
 share-less Γ j w h x s = go j.mult h
   where
-    go : (m : Mult) → InRun (under Part.run m) (AtMost (ext Γ j.binds) w j.uses) → m ⊙ outs (length j.binds) w x ≼ m ⊙ outs (length j.binds) j.uses x
+    go : (m : Mult) → InRun (under Part.run m) (AtMost (ext Γ j.binds) w j.uses) →
+        m ⊙ outs (length j.binds) w x ≼ m ⊙ outs (length j.binds) j.uses x
     go 𝟘 k = tt
     go 𝟙 k = at_most-outs Γ j.binds w j.uses k x s
     go ω k = ⊙-mono-right ω (outs (length j.binds) w x) _ (at_most-outs Γ j.binds w j.uses k x s)
@@ -57,7 +68,8 @@ less_sum : (b : Bool) (c d e f : Mult) → c ≼ e → d ≼ f → cond b d (c �
 less_sum true c d e f h k = k
 less_sum false c d e f h k = ⊕-mono c e d f h k
 
-less_join : (b a : Bool) (c d e f : Mult) → c ≼ e → d ≼ f → cond b (cond a (join c d) c) d ≼ cond b (cond a (join e f) e) f
+less_join : (b a : Bool) (c d e f : Mult) → c ≼ e → d ≼ f →
+    cond b (cond a (join c d) c) d ≼ cond b (cond a (join e f) e) f
 less_join false a c d e f h k = k
 less_join true true c d e f h k = join-mono c e d f h k
 less_join true false c d e f h k = h
@@ -69,51 +81,69 @@ reused-branch (Reused.more {j = j} h r) = ap (cond j.branch true) (reused-branch
 reused-sum : {Γ : Ctx} {js ks : List Judged} → Reused Part.run Γ js ks → AtMost Γ (sum_of ks) (sum_of js)
 reused-sum Reused.none = λ x s. tt
 reused-sum {Γ} (Reused.more {j = j} {w = w} {js = js} {ks = ks} h r) = λ x s.
-    less_sum j.branch (share (record j { uses = w }) x) (sum_of ks x) (share j x) (sum_of js x) (share-less Γ j w h x s) (reused-sum r x s)
+    less_sum j.branch (share (record j { uses = w }) x) (sum_of ks x) (share j x) (sum_of js x)
+    (share-less Γ j w h x s) (reused-sum r x s)
 
 reused-join : {Γ : Ctx} {js ks : List Judged} → Reused Part.run Γ js ks → AtMost Γ (join_of ks) (join_of js)
 reused-join Reused.none = λ x s. tt
 reused-join {Γ} (Reused.more {j = j} {w = w} {js = js} {ks = ks} h r) = λ x s.
-    rw (reused-branch r) (less_join j.branch (has_branch js) (share (record j { uses = w }) x) (join_of ks x) (share j x) (join_of js x) (share-less Γ j w h x s) (reused-join r x s))
+    rw (reused-branch r) (less_join j.branch (has_branch js) (share (record j { uses = w }) x) (join_of ks x)
+    (share j x) (join_of js x) (share-less Γ j w h x s) (reused-join r x s))
 
-reused-total : (p : Part) {Γ : Ctx} {js ks : List Judged} (own : Use) → Reused p Γ js ks → InRun p (AtMost Γ (total own ks) (total own js))
+reused-total : (p : Part) {Γ : Ctx} {js ks : List Judged} (own : Use) → Reused p Γ js ks →
+    InRun p (AtMost Γ (total own ks) (total own js))
 reused-total Part.erased own r = tt
 reused-total Part.run {Γ} {js} {ks} own r = λ x s.
-    ⊕-mono (own x) (own x) _ _ (≼-refl (own x)) (⊕-mono (sum_of ks x) (sum_of js x) (join_of ks x) (join_of js x) (reused-sum r x s) (reused-join r x s))
+    ⊕-mono (own x) (own x) _ _ (≼-refl (own x))
+    (⊕-mono (sum_of ks x) (sum_of js x) (join_of ks x) (join_of js x) (reused-sum r x s) (reused-join r x s))
 
 -- no rule looks at uses
-args-uses : {p : Part} {Γ : Ctx} {Θ : Tele} {σ : ℕ → Term} {ts : Terms} {js ks : List Judged} → Args Θ σ ts js → Reused p Γ js ks → Args Θ σ ts ks
-args-uses Args.none Reused.none = Args.none
-args-uses (Args.more a) (Reused.more h r) = Args.more (args-uses a r)
+pub data ButForUses : List Judged → List Judged → Type 0 where
+  none : ButForUses [] []
+  more : {j : Judged} {w : Use} {js ks : List Judged} → ButForUses js ks →
+      ButForUses (j ∷ js) (record j { uses = w } ∷ ks)
 
-params-uses : {p : Part} {Γ : Ctx} {Ξ Θ : Tele} {σ : ℕ → Term} {ts : Terms} {js ks : List Judged} {S R : Term} →
-    ParamsThenArgs Ξ Θ σ ts js S R → Reused p Γ js ks → ParamsThenArgs Ξ Θ σ ts ks S R
-params-uses (ParamsThenArgs.param a) (Reused.more h r) = ParamsThenArgs.param (params-uses a r)
+but-reused : {p : Part} {Γ : Ctx} {js ks : List Judged} → Reused p Γ js ks → ButForUses js ks
+but-reused Reused.none = ButForUses.none
+but-reused (Reused.more h r) = ButForUses.more (but-reused r)
+
+args-uses : {Θ : Tele} {σ : ℕ → Term} {ts : Terms} {js ks : List Judged} → Args Θ σ ts js → ButForUses js ks →
+    Args Θ σ ts ks
+args-uses Args.none ButForUses.none = Args.none
+args-uses (Args.more a) (ButForUses.more r) = Args.more (args-uses a r)
+
+params-uses : {Ξ Θ : Tele} {σ : ℕ → Term} {ts : Terms} {js ks : List Judged} {S R : Term} →
+    ParamsThenArgs Ξ Θ σ ts js S R → ButForUses js ks → ParamsThenArgs Ξ Θ σ ts ks S R
+params-uses (ParamsThenArgs.param a) (ButForUses.more r) = ParamsThenArgs.param (params-uses a r)
 params-uses (ParamsThenArgs.done a) r = ParamsThenArgs.done (args-uses a r)
 
-branches-uses : {p : Part} {Γ : Ctx} {S : FamSig} {q : Mult} {σ : ℕ → Term} {P : Term} {cs : List ConSig} {ns : List ℕ} {ts : Terms} {js ks : List Judged} {R : Term} →
-    Branches S q σ P cs ns ts js R → Reused p Γ js ks → Branches S q σ P cs ns ts ks R
-branches-uses (Branches.each e b) (Reused.more h r) = Branches.each e (branches-uses b r)
-branches-uses (Branches.scrutinee is e) (Reused.more h Reused.none) = Branches.scrutinee is e
+branches-uses : {S : FamSig} {q : Mult} {σ : ℕ → Term} {P : Term} {cs : List ConSig} {ns : List ℕ} {ts : Terms}
+    {js ks : List Judged} {R : Term} →
+    Branches S q σ P cs ns ts js R → ButForUses js ks → Branches S q σ P cs ns ts ks R
+branches-uses (Branches.each e b) (ButForUses.more r) = Branches.each e (branches-uses b r)
+branches-uses (Branches.scrutinee is e) (ButForUses.more ButForUses.none) = Branches.scrutinee is e
 
-cases-uses : {p : Part} {Γ : Ctx} {S : FamSig} {q : Mult} {Θ : Tele} {σ : ℕ → Term} {k m : ℕ} {ns : List ℕ} {ts : Terms} {js ks : List Judged} {R : Term} →
-    Cases S q Θ σ k m ns ts js R → Reused p Γ js ks → Cases S q Θ σ k m ns ts ks R
-cases-uses (Cases.param a) (Reused.more h r) = Cases.param (cases-uses a r)
-cases-uses (Cases.motive a) (Reused.more h r) = Cases.motive (branches-uses a r)
+cases-uses : {S : FamSig} {q : Mult} {Θ : Tele} {σ : ℕ → Term} {k m : ℕ} {ns : List ℕ} {ts : Terms}
+    {js ks : List Judged} {R : Term} →
+    Cases S q Θ σ k m ns ts js R → ButForUses js ks → Cases S q Θ σ k m ns ts ks R
+cases-uses (Cases.param a) (ButForUses.more r) = Cases.param (cases-uses a r)
+cases-uses (Cases.motive a) (ButForUses.more r) = Cases.motive (branches-uses a r)
 
-rule-uses : {E : Env} {p : Part} {Γ : Ctx} {F : Form} {ts : Terms} {js ks : List Judged} {R : Term} {own : Use} →
-    Rule E p F ts js R own → Reused p Γ js ks → Rule E p F ts ks R own
-rule-uses Rule.sort Reused.none = Rule.sort
-rule-uses Rule.pi (Reused.more h (Reused.more k Reused.none)) = Rule.pi
-rule-uses Rule.lam (Reused.more h (Reused.more k Reused.none)) = Rule.lam
-rule-uses Rule.app (Reused.more h (Reused.more k Reused.none)) = Rule.app
-rule-uses Rule.trap (Reused.more h Reused.none) = Rule.trap
-rule-uses Rule.tape Reused.none = Rule.tape
+pub rule-uses : {E : Env} {p : Part} {F : Form} {ts : Terms} {js ks : List Judged} {R : Term} {own : Use} →
+    Rule E p F ts js R own → ButForUses js ks → Rule E p F ts ks R own
+rule-uses Rule.sort ButForUses.none = Rule.sort
+rule-uses Rule.pi (ButForUses.more (ButForUses.more ButForUses.none)) = Rule.pi
+rule-uses Rule.lam (ButForUses.more (ButForUses.more ButForUses.none)) = Rule.lam
+rule-uses Rule.app (ButForUses.more (ButForUses.more ButForUses.none)) = Rule.app
+rule-uses Rule.trap (ButForUses.more ButForUses.none) = Rule.trap
+rule-uses Rule.tape ButForUses.none = Rule.tape
 rule-uses (Rule.fam there a) r = Rule.fam there (params-uses a r)
 rule-uses (Rule.con i a) r = Rule.con i (params-uses a r)
 rule-uses (Rule.named there m a) r = Rule.named there m (args-uses a r)
 rule-uses (Rule.case there m a) r = Rule.case there m (cases-uses a r)
-rule-uses (Rule.delete m) (Reused.more h₁ (Reused.more h₂ (Reused.more h₃ (Reused.more h₄ (Reused.more h₅ Reused.none))))) = Rule.delete m
+rule-uses (Rule.delete m)
+    (ButForUses.more (ButForUses.more (ButForUses.more (ButForUses.more (ButForUses.more ButForUses.none))))) =
+    Rule.delete m
 
 pub exact_use : Part → Use → Use
 exact_use Part.run w = w
@@ -132,13 +162,18 @@ exact-within Part.erased Γ w u h = tt
 mutual
   pub has-typed : {E : Env} {p : Part} {Γ : Ctx} {t A : Term} {u : Use} → Has E p Γ t A u →
       (w : Use) × Typed E p Γ t A w × InRun p (AtMost Γ w u)
-  has-typed {p = p} {Γ = Γ} {u = u} (Has.at_var {i = i} s m c f) =
-      (exact_use p (unit (Key.v i)), Typed.conversion (Typed.variable s m (is-exact p Γ (unit (Key.v i)))) c, exact-within p Γ (unit (Key.v i)) u f)
+  has-typed {p = p} {Γ = Γ} {u = u} (Has.at_var {i = i} s m c f) = (
+    exact_use p (unit (Key.v i)),
+    Typed.conversion (Typed.variable s m (is-exact p Γ (unit (Key.v i)))) c,
+    exact-within p Γ (unit (Key.v i)) u f,
+  )
   has-typed {p = p} {Γ = Γ} {u = u} (Has.at_node {js = js} {own = own} r hs c f) =
       let (ks, ts, m) = has-all hs in (
         exact_use p (total own ks),
-        Typed.conversion (Typed.by_rule (rule-uses r m) ts (is-exact p Γ (total own ks))) c,
-        exact-within p Γ (total own ks) u (in_run₂ p (λ a b x s. ≼-trans (total own ks x) (total own js x) (u x) (a x s) (b x s)) (reused-total p own m) f),
+        Typed.conversion (Typed.by_rule (rule-uses r (but-reused m)) ts (is-exact p Γ (total own ks))) c,
+        exact-within p Γ (total own ks) u
+            (in_run₂ p (λ a b x s. ≼-trans (total own ks x) (total own js x) (u x) (a x s) (b x s))
+            (reused-total p own m) f),
       )
 
   has-all : {E : Env} {p : Part} {Γ : Ctx} {ns : List ℕ} {ts : Terms} {js : List Judged} → HasAll E p Γ ns ts js →
@@ -146,15 +181,21 @@ mutual
   has-all HasAll.none = ([], TypedAll.none, Reused.none)
   has-all {p = p} {Γ = Γ} (HasAll.more {j = j} e h f hs) =
       let (w, t, k) = has-typed h in
-      let (ks, ts, r) = has-all hs in
-      (record j { uses = w } ∷ ks, TypedAll.more e t (in_run₂ (under p j.mult) (λ a b. fit-less Γ j.binds w j.uses a b) k f) ts, Reused.more k r)
+      let (ks, ts, r) = has-all hs in (
+        record j { uses = w } ∷ ks,
+        TypedAll.more e t (in_run₂ (under p j.mult) (λ a b. fit-less Γ j.binds w j.uses a b) k f) ts,
+        Reused.more k r,
+      )
 
 use-as : (p : Part) (Γ : Ctx) (z w u : Use) → ((x : Key) → KeyIn Γ x → u x ≡ w x) → UseIs p Γ z w → UseIs p Γ z u
 use-as Part.run Γ z w u h e = λ x s. h x s ∙ e x s
 use-as Part.erased Γ z w u h e = λ x s. h x s ∙ e x s
 
 -- only the uses of the context's variables and of tapes matter
-pub typed-as : {E : Env} {p : Part} {Γ : Ctx} {t A : Term} {w : Use} (u : Use) → Typed E p Γ t A w → ((x : Key) → KeyIn Γ x → u x ≡ w x) → Typed E p Γ t A u
-typed-as {p = p} {Γ = Γ} {w = w} u (Typed.variable {i = i} s m e) h = Typed.variable s m (use-as p Γ (unit (Key.v i)) w u h e)
-typed-as {p = p} {Γ = Γ} {w = w} u (Typed.by_rule {js = js} {own = own} r hs e) h = Typed.by_rule r hs (use-as p Γ (total own js) w u h e)
+pub typed-as : {E : Env} {p : Part} {Γ : Ctx} {t A : Term} {w : Use} (u : Use) → Typed E p Γ t A w →
+    ((x : Key) → KeyIn Γ x → u x ≡ w x) → Typed E p Γ t A u
+typed-as {p = p} {Γ = Γ} {w = w} u (Typed.variable {i = i} s m e) h =
+    Typed.variable s m (use-as p Γ (unit (Key.v i)) w u h e)
+typed-as {p = p} {Γ = Γ} {w = w} u (Typed.by_rule {js = js} {own = own} r hs e) h =
+    Typed.by_rule r hs (use-as p Γ (total own js) w u h e)
 typed-as u (Typed.conversion d c) h = Typed.conversion (typed-as u d h) c

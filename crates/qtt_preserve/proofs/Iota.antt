@@ -22,7 +22,8 @@ use Rattle.qtt_preserve.proofs.Travel.{in_run₃, has_as, usable-under, erase, r
 use Rattle.qtt_preserve.proofs.Substitution.{has_var, Fills, substitution}
 
 -- ---- what a Case's derivation says of the branch that is picked and of the scrutinee
-pub record Scrutinee (E : Env) (p : Part) (Γ : Ctx) (S : FamSig) (q : Mult) (σ : ℕ → Term) (P s R : Term) (js : List Judged) : Type 0 where
+pub record Scrutinee (E : Env) (p : Part) (Γ : Ctx) (S : FamSig) (q : Mult) (σ : ℕ → Term) (P s R : Term)
+    (js : List Judged) : Type 0 where
   pub indices : Terms
   pub uses : Use
   pub has : Has E (under p q) Γ s (sub (push indices σ) S.self) uses
@@ -30,7 +31,8 @@ pub record Scrutinee (E : Env) (p : Part) (Γ : Ctx) (S : FamSig) (q : Mult) (σ
   pub result : sub (push (indices +++ (s ▸ ε)) var) P ≡ R
   pub counted : (x : Key) → q ⊙ uses x ≼ sum_of js x
 
-find_last : {E : Env} {p : Part} {Γ : Ctx} {S : FamSig} {q : Mult} {σ : ℕ → Term} {P : Term} {cs : List ConSig} {ns : List ℕ} {ts : Terms} {js : List Judged} {R s : Term} →
+find_last : {E : Env} {p : Part} {Γ : Ctx} {S : FamSig} {q : Mult} {σ : ℕ → Term} {P : Term} {cs : List ConSig}
+    {ns : List ℕ} {ts : Terms} {js : List Judged} {R s : Term} →
     Branches S q σ P cs ns ts js R → ScrutineeAt ns ts s → HasAll E p Γ ns ts js → Scrutinee E p Γ S q σ P s R js
 find_last (Branches.scrutinee is {w = w} e) ScrutineeAt.end (HasAll.more d h f HasAll.none) =
     record { indices = is; uses = w; has = h; sized = e; result = refl; counted = λ x. ≼-of (sym (⊕-zero _)) }
@@ -38,7 +40,8 @@ find_last (Branches.each e b) (ScrutineeAt.later l) (HasAll.more d h f hs) =
     let r = find_last b l hs in
     record { indices = r.indices; uses = r.uses; has = r.has; sized = r.sized; result = r.result; counted = r.counted }
 
-pub record Picked (E : Env) (p : Part) (Γ : Ctx) (S : FamSig) (q : Mult) (σ : ℕ → Term) (P : Term) (cs : List ConSig) (c n : ℕ) (b s R : Term) (js : List Judged) : Type 0 where
+pub record Picked (E : Env) (p : Part) (Γ : Ctx) (S : FamSig) (q : Mult) (σ : ℕ → Term) (P : Term)
+    (cs : List ConSig) (c n : ℕ) (b s R : Term) (js : List Judged) : Type 0 where
   pub con : ConSig
   pub is_con : IsCon cs c con
   pub sized : size con.targets ≡ length S.motive
@@ -53,13 +56,16 @@ join_in : (c : Bool) (a b : Mult) → b ≼ cond c b a → b ≼ cond c (join a 
 join_in true a b h = ≼-join-right a b
 join_in false a b h = h
 
-some_branch : {S : FamSig} {q : Mult} {σ : ℕ → Term} {P : Term} {cs : List ConSig} {ns : List ℕ} {ts : Terms} {js : List Judged} {R : Term} {c n : ℕ} {b s : Term} →
+some_branch : {S : FamSig} {q : Mult} {σ : ℕ → Term} {P : Term} {cs : List ConSig} {ns : List ℕ} {ts : Terms}
+    {js : List Judged} {R : Term} {c n : ℕ} {b s : Term} →
     Branches S q σ P cs ns ts js R → BranchAt c ns ts n b s → has_branch js ≡ true
 some_branch (Branches.each e h) b = refl
 some_branch (Branches.scrutinee is e) b = elim b [ ]
 
-find_branch : {E : Env} {p : Part} {Γ : Ctx} {S : FamSig} {q : Mult} {σ : ℕ → Term} {P : Term} {cs : List ConSig} {ns : List ℕ} {ts : Terms} {js : List Judged} {R s b : Term} {c n : ℕ} →
-    Branches S q σ P cs ns ts js R → BranchAt c ns ts n b s → HasAll E p Γ ns ts js → Picked E p Γ S q σ P cs c n b s R js
+find_branch : {E : Env} {p : Part} {Γ : Ctx} {S : FamSig} {q : Mult} {σ : ℕ → Term} {P : Term} {cs : List ConSig}
+    {ns : List ℕ} {ts : Terms} {js : List Judged} {R s b : Term} {c n : ℕ} →
+    Branches S q σ P cs ns ts js R → BranchAt c ns ts n b s → HasAll E p Γ ns ts js →
+    Picked E p Γ S q σ P cs c n b s R js
 find_branch (Branches.scrutinee is e) b h = elim b [ ]
 find_branch {σ = σ} {P = P} (Branches.each {c = k} {js = js} {w = w} e b) (BranchAt.here l) (HasAll.more d h f hs) =
     let r = find_last b l hs in
@@ -70,7 +76,14 @@ find_branch {σ = σ} {P = P} (Branches.each {c = k} {js = js} {w = w} e b) (Bra
       uses = w;
       has = h;
       fit = f;
-      scrutinee = record { indices = r.indices; uses = r.uses; has = r.has; sized = r.sized; result = r.result; counted = r.counted };
+      scrutinee = record {
+        indices = r.indices;
+        uses = r.uses;
+        has = r.has;
+        sized = r.sized;
+        result = r.result;
+        counted = r.counted;
+      };
       counted = λ x. left (has_branch js) (outs (length (sub_binds σ (scale _ k.fields))) w x) (join_of js x);
     }
   where
@@ -86,22 +99,34 @@ find_branch {σ = σ} {P = P} (Branches.each {c = k} {js = js} {w = w} e b) (Bra
       uses = r.uses;
       has = r.has;
       fit = r.fit;
-      scrutinee = record { indices = r.scrutinee.indices; uses = r.scrutinee.uses; has = r.scrutinee.has; sized = r.scrutinee.sized; result = r.scrutinee.result; counted = r.scrutinee.counted };
-      counted = λ x. ≼-trans _ (join_of js x) _ (r.counted x) (right (has_branch js) (outs (length (sub_binds σ (scale _ k.fields))) w x) (join_of js x) (some_branch b l));
+      scrutinee = record {
+        indices = r.scrutinee.indices;
+        uses = r.scrutinee.uses;
+        has = r.scrutinee.has;
+        sized = r.scrutinee.sized;
+        result = r.scrutinee.result;
+        counted = r.scrutinee.counted;
+      };
+      counted = λ x. ≼-trans _ (join_of js x) _ (r.counted x)
+          (right (has_branch js) (outs (length (sub_binds σ (scale _ k.fields))) w x) (join_of js x)
+          (some_branch b l));
     }
   where
     right : (c : Bool) (a b : Mult) → c ≡ true → b ≼ cond c (join a b) a
     right c a b e = rw e (≼-join-right a b)
 
-pub record Cased (E : Env) (p : Part) (Γ : Ctx) (S : FamSig) (q : Mult) (Θ : Tele) (σ : ℕ → Term) (ts : Terms) (c n : ℕ) (b s R : Term) (js : List Judged) : Type 0 where
+pub record Cased (E : Env) (p : Part) (Γ : Ctx) (S : FamSig) (q : Mult) (Θ : Tele) (σ : ℕ → Term) (ts : Terms)
+    (c n : ℕ) (b s R : Term) (js : List Judged) : Type 0 where
   pub params : ℕ → Term
   pub motive : Term
   pub others : Terms
   pub split : Split Θ σ ts params (motive ▸ others)
   pub picked : Picked E p Γ S q params motive S.constructors c n b s R js
 
-find_case : {E : Env} {p : Part} {Γ : Ctx} {S : FamSig} {q : Mult} {Θ : Tele} {σ : ℕ → Term} {k m : ℕ} {ns : List ℕ} {ts : Terms} {js : List Judged} {R s b : Term} {c n : ℕ} →
-    Cases S q Θ σ k m ns ts js R → Picks c k ns ts n b s → HasAll E p Γ (zeros k (m ∷ ns)) ts js → Cased E p Γ S q Θ σ ts c n b s R js
+find_case : {E : Env} {p : Part} {Γ : Ctx} {S : FamSig} {q : Mult} {Θ : Tele} {σ : ℕ → Term} {k m : ℕ}
+    {ns : List ℕ} {ts : Terms} {js : List Judged} {R s b : Term} {c n : ℕ} →
+    Cases S q Θ σ k m ns ts js R → Picks c k ns ts n b s → HasAll E p Γ (zeros k (m ∷ ns)) ts js →
+    Cased E p Γ S q Θ σ ts c n b s R js
 find_case (Cases.param h) (Picks.param k) (HasAll.more d ha f hs) =
     let r = find_case h k hs in
     let k = r.picked in
@@ -119,7 +144,14 @@ find_case (Cases.param h) (Picks.param k) (HasAll.more d ha f hs) =
             has = k.has;
             fit = k.fit;
             scrutinee =
-                record { indices = k.scrutinee.indices; uses = k.scrutinee.uses; has = k.scrutinee.has; sized = k.scrutinee.sized; result = k.scrutinee.result; counted = k.scrutinee.counted };
+                record {
+                  indices = k.scrutinee.indices;
+                  uses = k.scrutinee.uses;
+                  has = k.scrutinee.has;
+                  sized = k.scrutinee.sized;
+                  result = k.scrutinee.result;
+                  counted = k.scrutinee.counted;
+                };
             counted = k.counted;
           };
     }
@@ -139,13 +171,21 @@ find_case (Cases.motive {σ = σ} {P = P} {ts = ts} h) (Picks.motive k) (HasAll.
             has = k.has;
             fit = k.fit;
             scrutinee =
-                record { indices = k.scrutinee.indices; uses = k.scrutinee.uses; has = k.scrutinee.has; sized = k.scrutinee.sized; result = k.scrutinee.result; counted = k.scrutinee.counted };
+                record {
+                  indices = k.scrutinee.indices;
+                  uses = k.scrutinee.uses;
+                  has = k.scrutinee.has;
+                  sized = k.scrutinee.sized;
+                  result = k.scrutinee.result;
+                  counted = k.scrutinee.counted;
+                };
             counted = k.counted;
           };
     }
 
 -- ---- what a constructor's derivation says of its fields
-pub record Fielded (E : Env) (p : Part) (Γ : Ctx) (Ξ Θ : Tele) (σ : ℕ → Term) (ts fs : Terms) (js : List Judged) (S R : Term) : Type 0 where
+pub record Fielded (E : Env) (p : Part) (Γ : Ctx) (Ξ Θ : Tele) (σ : ℕ → Term) (ts fs : Terms) (js : List Judged)
+    (S R : Term) : Type 0 where
   pub params : ℕ → Term
   pub split : Split Θ σ ts params fs
   pub asked : List Judged
@@ -154,19 +194,38 @@ pub record Fielded (E : Env) (p : Part) (Γ : Ctx) (Ξ Θ : Tele) (σ : ℕ → 
   pub result : sub (push fs params) S ≡ R
   pub counted : (x : Key) → sum_of asked x ≼ sum_of js x
 
-pub find_fields : {E : Env} {p : Part} {Γ : Ctx} {Ξ Θ : Tele} {σ : ℕ → Term} {ts : Terms} {js : List Judged} {S R : Term} →
+pub find_fields : {E : Env} {p : Part} {Γ : Ctx} {Ξ Θ : Tele} {σ : ℕ → Term} {ts : Terms} {js : List Judged}
+    {S R : Term} →
     ParamsThenArgs Ξ Θ σ ts js S R → HasAll E p Γ [] ts js → Fielded E p Γ Ξ Θ σ ts (skip (length Θ) ts) js S R
 find_fields (ParamsThenArgs.param h) (HasAll.more d ha f hs) =
     let r = find_fields h hs in
-    record { params = r.params; split = Split.skip r.split; asked = r.asked; args = r.args; has = r.has; result = r.result; counted = r.counted }
+    record {
+      params = r.params;
+      split = Split.skip r.split;
+      asked = r.asked;
+      args = r.args;
+      has = r.has;
+      result = r.result;
+      counted = r.counted;
+    }
 find_fields (ParamsThenArgs.done {σ = σ} {js = js} h) hs =
-    record { params = σ; split = Split.done; asked = js; args = h; has = hs; result = refl; counted = λ x. ≼-refl (sum_of js x) }
+    record {
+      params = σ;
+      split = Split.done;
+      asked = js;
+      args = h;
+      has = hs;
+      result = refl;
+      counted = λ x. ≼-refl (sum_of js x);
+    }
 
-pub no_branch : {Θ : Tele} {σ : ℕ → Term} {ts : Terms} {js : List Judged} → Args Θ σ ts js → (x : Key) → join_of js x ≡ 𝟘
+pub no_branch : {Θ : Tele} {σ : ℕ → Term} {ts : Terms} {js : List Judged} → Args Θ σ ts js →
+    (x : Key) → join_of js x ≡ 𝟘
 no_branch Args.none x = refl
 no_branch (Args.more h) x = no_branch h x
 
-pub no_branches : {Ξ Θ : Tele} {σ : ℕ → Term} {ts : Terms} {js : List Judged} {S R : Term} → ParamsThenArgs Ξ Θ σ ts js S R → (x : Key) → join_of js x ≡ 𝟘
+pub no_branches : {Ξ Θ : Tele} {σ : ℕ → Term} {ts : Terms} {js : List Judged} {S R : Term} →
+    ParamsThenArgs Ξ Θ σ ts js S R → (x : Key) → join_of js x ≡ 𝟘
 no_branches (ParamsThenArgs.param h) x = no_branches h x
 no_branches (ParamsThenArgs.done h) x = no_branch h x
 
@@ -183,7 +242,8 @@ abbrev pub push_uses : List Judged → (ℕ → Use) → ℕ → Use
 push_uses [] M = M
 push_uses (j ∷ js) M = push_uses js (cons_use j.uses M)
 
-under-scaled : {E : Env} {Γ : Ctx} {t A : Term} {u : Use} (p : Part) (q m : Mult) → Usable p q → Has E (under p m) Γ t A u → Has E (under p (q ⊙ m)) Γ t A u
+under-scaled : {E : Env} {Γ : Ctx} {t A : Term} {u : Use} (p : Part) (q m : Mult) → Usable p q →
+    Has E (under p m) Γ t A u → Has E (under p (q ⊙ m)) Γ t A u
 under-scaled Part.run 𝟘 m s h = elim s [ ]
 under-scaled Part.erased 𝟘 m s h = erase h
 under-scaled p 𝟙 m s h = h
@@ -192,16 +252,20 @@ under-scaled p ω 𝟙 s h = h
 under-scaled p ω ω s h = h
 
 fill_args : {E : Env} {p : Part} {Γ : Ctx} {Θ : Tele} {τ : ℕ → Term} {fs : Terms} {js : List Judged} →
-    (bodies : BodiesClosed E) → Args Θ τ fs js → HasAll E p Γ [] fs js → (q : Mult) → Usable p q → (Γ₀ : Ctx) (σ π : ℕ → Term) (M : ℕ → Use) → Fills E bodies p Γ₀ Γ σ M →
-    ((i : ℕ) → Conv E (τ i) (sub σ (π i))) → Fills E bodies p (ext Γ₀ (sub_binds π (scale q Θ))) Γ (push fs σ) (push_uses js M)
+    (bodies : BodiesClosed E) → Args Θ τ fs js → HasAll E p Γ [] fs js → (q : Mult) → Usable p q →
+    (Γ₀ : Ctx) (σ π : ℕ → Term) (M : ℕ → Use) → Fills E bodies p Γ₀ Γ σ M →
+    ((i : ℕ) → Conv E (τ i) (sub σ (π i))) →
+    Fills E bodies p (ext Γ₀ (sub_binds π (scale q Θ))) Γ (push fs σ) (push_uses js M)
 fill_args bodies Args.none HasAll.none q m Γ₀ σ π M g c = g
-fill_args {E} {p} {Γ} bodies (Args.more {q = n} {T = T} {σ = τ} {a = a} {u = u} h) (HasAll.more d ha f hs) q m Γ₀ σ π M g c =
+fill_args {E} {p} {Γ} bodies (Args.more {q = n} {T = T} {σ = τ} {a = a} {u = u} h)
+    (HasAll.more d ha f hs) q m Γ₀ σ π M g c =
     fill_args bodies h hs q m ((q ⊙ n, sub π T) ∷ Γ₀) (cons a σ) (lift π) (cons_use u M) fills convs
   where
     fills : Fills E bodies p ((q ⊙ n, sub π T) ∷ Γ₀) Γ (cons a σ) (cons_use u M)
     fills zero s =
         has_as E (sub (cons a σ) (ren suc (sub π T))) u (under-scaled p q n m ha)
-        (subst (λ B. Conv E (sub τ T) B) (sym (cons-ren σ a (sub π T) ∙ sub-sub σ π T)) (conv-fill bodies T τ (λ i. sub σ (π i)) c))
+        (subst (λ B. Conv E (sub τ T) B) (sym (cons-ren σ a (sub π T) ∙ sub-sub σ π T))
+        (conv-fill bodies T τ (λ i. sub σ (π i)) c))
         (always (under p (q ⊙ n)) λ x s. ≼-refl (u x))
     fills (suc i) s =
         subst (λ B. Has E (under p (mult_at Γ₀ i)) Γ (σ i) B (M i)) (sym (cons-ren σ a (type_at Γ₀ i))) (g i s)
@@ -219,18 +283,23 @@ tapes-out w (Key.h i) = refl
 
 fill_uses : {Θ : Tele} {τ : ℕ → Term} {fs : Terms} {js : List Judged} → Args Θ τ fs js →
     (q : Mult) (Γ₀ : Ctx) (π : ℕ → Term) (M : ℕ → Use) (w : Use) → BindersFit (sub_binds π (scale q Θ)) w → (x : Key) →
-    through (ext Γ₀ (sub_binds π (scale q Θ))) (push_uses js M) w x ≼ through Γ₀ M (outs (length (sub_binds π (scale q Θ))) w) x ⊕ q ⊙ sum_of js x
+    through (ext Γ₀ (sub_binds π (scale q Θ))) (push_uses js M) w x ≼ through Γ₀ M
+    (outs (length (sub_binds π (scale q Θ))) w) x ⊕ q ⊙ sum_of js x
 fill_uses Args.none q Γ₀ π M w f x = ≼-of (sym (ap (λ n. through Γ₀ M w x ⊕ n) (⊙-zero q) ∙ ⊕-zero (through Γ₀ M w x)))
 fill_uses (Args.more {q = m} {T = T} {Θ = Θ} {js = js} {u = y} h) q Γ₀ π M w f x =
     ≼-trans _ (through ((q ⊙ m, sub π T) ∷ Γ₀) (cons_use y M) o x ⊕ q ⊙ sum_of js x) _
     (fill_uses h q ((q ⊙ m, sub π T) ∷ Γ₀) (lift π) (cons_use y M) w f.1 x)
-    (≼-trans _ ((tapes_of (out o) x ⊕ ((q ⊙ m) ⊙ y x ⊕ dot Γ₀ (λ i. o (Key.v (suc i))) (λ i. M i x))) ⊕ q ⊙ sum_of js x) _
+    (≼-trans _ ((tapes_of (out o) x ⊕ ((q ⊙ m) ⊙ y x ⊕ dot Γ₀ (λ i. o (Key.v (suc i))) (λ i. M i x))) ⊕ q ⊙ sum_of
+    js x) _
     (⊕-mono _ (tapes_of (out o) x ⊕ ((q ⊙ m) ⊙ y x ⊕ dot Γ₀ (λ i. o (Key.v (suc i))) (λ i. M i x))) _ (q ⊙ sum_of js x)
-    (⊕-mono _ (tapes_of (out o) x) _ ((q ⊙ m) ⊙ y x ⊕ dot Γ₀ (λ i. o (Key.v (suc i))) (λ i. M i x)) (≼-of (tapes-out o x))
-    (⊕-mono (o (Key.v 0) ⊙ y x) ((q ⊙ m) ⊙ y x) _ _ (⊙-mono (o (Key.v 0)) (q ⊙ m) (y x) f.0) (≼-refl (dot Γ₀ (λ i. o (Key.v (suc i))) (λ i. M i x)))))
+    (⊕-mono _ (tapes_of (out o) x) _ ((q ⊙ m) ⊙ y x ⊕ dot Γ₀ (λ i. o (Key.v (suc i))) (λ i. M i x))
+    (≼-of (tapes-out o x))
+    (⊕-mono (o (Key.v 0) ⊙ y x) ((q ⊙ m) ⊙ y x) _ _ (⊙-mono (o (Key.v 0)) (q ⊙ m) (y x) f.0)
+    (≼-refl (dot Γ₀ (λ i. o (Key.v (suc i))) (λ i. M i x)))))
     (≼-refl (q ⊙ sum_of js x)))
     (≼-of (rearranged (tapes_of (out o) x) ((q ⊙ m) ⊙ y x) _ _
-    ∙ ap (λ n. through Γ₀ M (out o) x ⊕ n) (ap (λ n. n ⊕ q ⊙ sum_of js x) (⊙-assoc q m (y x)) ∙ sym (⊙-⊕ q (m ⊙ y x) (sum_of js x))))))
+    ∙ ap (λ n. through Γ₀ M (out o) x ⊕ n)
+    (ap (λ n. n ⊕ q ⊙ sum_of js x) (⊙-assoc q m (y x)) ∙ sym (⊙-⊕ q (m ⊙ y x) (sum_of js x))))))
   where
     o : Use
     o = outs (length (sub_binds (lift π) (scale q Θ))) w
@@ -245,44 +314,57 @@ branch_type-fill : (fs : Terms) (π : ℕ → Term) (c : ConSig) (P : Term) → 
 branch_type-fill fs π c P e =
     ap (λ n. sub (push fs var) (sub (push (subs [] (lifts n π) c.targets) (λ i. var (shift n i))) P)) (sym e)
     ∙ sub-sub (push fs var) (push (subs [] (lifts (size fs) π) c.targets) (λ i. var (shift (size fs) i))) P
-    ∙ ap (λ f. sub f P) (push-then_sub (subs [] (lifts (size fs) π) c.targets) (push fs var) (λ i. var (shift (size fs) i)))
+    ∙ ap (λ f. sub f P) (push-then_sub (subs [] (lifts (size fs) π) c.targets) (push fs var)
+    (λ i. var (shift (size fs) i)))
     ∙ ap₂ (λ A f. sub (push A f) P)
-    (subs-after c.targets [] (push fs var) (lifts (size fs) π) ∙ ap (λ f. subs [] f c.targets) (push-lifts fs var π ∙ ap (push fs) (fun_ext λ i. sub-id (π i))))
+    (subs-after c.targets [] (push fs var) (lifts (size fs) π) ∙ ap (λ f. subs [] f c.targets)
+    (push-lifts fs var π ∙ ap (push fs) (fun_ext λ i. sub-id (π i))))
     (fun_ext λ i. push-shift fs var i)
 
 iota_total : (w n q y g s j u : Mult) → w ≼ n ⊕ q ⊙ g → n ≼ j → g ≼ y → q ⊙ y ≼ s → s ⊕ j ≼ u → w ≼ u
 iota_total w n q y g s j u a b c d e =
     ≼-trans w (n ⊕ q ⊙ g) u a
-    (≼-trans _ (j ⊕ s) u (⊕-mono n j _ _ b (≼-trans (q ⊙ g) (q ⊙ y) s (⊙-mono-right q g y c) d)) (≼-trans (j ⊕ s) (s ⊕ j) u (≼-of (⊕-comm j s)) e))
+    (≼-trans _ (j ⊕ s) u (⊕-mono n j _ _ b (≼-trans (q ⊙ g) (q ⊙ y) s (⊙-mono-right q g y c) d))
+    (≼-trans (j ⊕ s) (s ⊕ j) u (≼-of (⊕-comm j s)) e))
 
-identity_fills : (E : Env) (bodies : BodiesClosed E) (p : Part) (Γ : Ctx) → Fills E bodies p Γ Γ var (λ i. unit (Key.v i))
+identity_fills : (E : Env) (bodies : BodiesClosed E) (p : Part) (Γ : Ctx) →
+    Fills E bodies p Γ Γ var (λ i. unit (Key.v i))
 identity_fills E bodies p Γ i s =
     subst (λ B. Has E (under p (mult_at Γ i)) Γ (var i) B (unit (Key.v i))) (sym (sub-id (type_at Γ i)))
     (has_var E bodies (under p (mult_at Γ i)) Γ i s (usable-under p (mult_at Γ i)))
 
-iota_of : {E : Env} {p : Part} {Γ : Ctx} {q : Mult} {f : GlobalId} {c n : ℕ} {ts xs fs : Terms} {b C : Term} {u : Use} {js ks : List Judged} {R Q : Term} →
+iota_of : {E : Env} {p : Part} {Γ : Ctx} {q : Mult} {f : GlobalId} {c n : ℕ} {ts xs fs : Terms} {b C : Term}
+    {u : Use} {js ks : List Judged} {R Q : Term} →
     BodiesClosed E → FamilyInjective E → Usable p q →
-    (r : Cased E p Γ (fam_at E f) q (fam_at E f).params closed ts c n b (node (Form.con f c (length (fam_at E f).params)) xs) R js) →
+    (r : Cased E p Γ (fam_at E f) q (fam_at E f).params closed ts c n b
+    (node (Form.con f c (length (fam_at E f).params)) xs) R js) →
     Fielded E p Γ r.picked.con.fields (fam_at E f).params closed xs fs ks r.picked.con.result Q →
     Conv E Q (sub (push r.picked.scrutinee.indices r.params) (fam_at E f).self) → ((x : Key) → join_of ks x ≡ 𝟘) →
-    InRun p (AtMost Γ (total zero_use ks) r.picked.scrutinee.uses) → Conv E R C → InRun p (AtMost Γ (total zero_use js) u) →
+    InRun p (AtMost Γ (total zero_use ks) r.picked.scrutinee.uses) → Conv E R C →
+    InRun p (AtMost Γ (total zero_use js) u) →
     Has E p Γ (sub (push fs var) b) C u
 iota_of {E} {p} {Γ} {q} {f} {c} {n} {ts} {xs} {fs} {b} {C} {u} {js} {ks} {R} {Q} bodies inj m r l cq nb fq cv fu =
     has_as E C u
     (substitution E bodies g.has Γ (push fs var) (push_uses l.asked (λ i. unit (Key.v i)))
-    (fill_args bodies l.args l.has q m Γ var π (λ i. unit (Key.v i)) (identity_fills E bodies p Γ) (λ i. subst (λ B. Conv E (l.params i) B) (sym (sub-id (π i))) (same.0 i))))
+    (fill_args bodies l.args l.has q m Γ var π (λ i. unit (Key.v i)) (identity_fills E bodies p Γ)
+    (λ i. subst (λ B. Conv E (l.params i) B) (sym (sub-id (π i))) (same.0 i))))
     (subst (λ B. Conv E B C) (sym (branch_type-fill fs π g.con P (args-size l.args)))
-    (Conv.thence (conv-fill bodies P _ _ (push-conv (convs-fill bodies g.con.targets [] (push fs π) (push fs l.params) (push-conv (convs-same fs) π l.params (λ i. Conv.back (same.0 i)))) var var (λ i. Conv.same)))
+    (Conv.thence (conv-fill bodies P _ _
+    (push-conv (convs-fill bodies g.con.targets [] (push fs π) (push fs l.params)
+    (push-conv (convs-same fs) π l.params (λ i. Conv.back (same.0 i)))) var var (λ i. Conv.same)))
     (Conv.thence (conv-fill bodies P _ _ same.1) (subst (λ B. Conv E B C) (sym g.scrutinee.result) cv))))
     (in_run₃ p (λ a fit d x s.
     iota_total _ _ q (g.scrutinee.uses x) (sum_of l.asked x) (sum_of js x) (join_of js x) (u x)
-    (≼-trans _ (through Γ (λ i. unit (Key.v i)) o x ⊕ q ⊙ sum_of l.asked x) _ (fill_uses l.args q Γ π (λ i. unit (Key.v i)) g.uses fit x)
+    (≼-trans _ (through Γ (λ i. unit (Key.v i)) o x ⊕ q ⊙ sum_of l.asked x) _
+    (fill_uses l.args q Γ π (λ i. unit (Key.v i)) g.uses fit x)
     (⊕-mono _ (o x) (q ⊙ sum_of l.asked x) _ (through-same Γ o x s) (≼-refl (q ⊙ sum_of l.asked x))))
     (g.counted x)
-    (≼-trans (sum_of l.asked x) (sum_of ks x) _ (l.counted x) (subst (λ z. z ≼ g.scrutinee.uses x) (ap (λ z. sum_of ks x ⊕ z) (nb x) ∙ ⊕-zero (sum_of ks x)) (a x s)))
+    (≼-trans (sum_of l.asked x) (sum_of ks x) _ (l.counted x)
+    (subst (λ z. z ≼ g.scrutinee.uses x) (ap (λ z. sum_of ks x ⊕ z) (nb x) ∙ ⊕-zero (sum_of ks x)) (a x s)))
     (g.scrutinee.counted x) (d x s)) fq g.fit fu)
   where
-    g : Picked E p Γ (fam_at E f) q r.params r.motive (fam_at E f).constructors c n b (node (Form.con f c (length (fam_at E f).params)) xs) R js
+    g : Picked E p Γ (fam_at E f) q r.params r.motive (fam_at E f).constructors c n b
+        (node (Form.con f c (length (fam_at E f).params)) xs) R js
     g = r.picked
 
     π : ℕ → Term
@@ -294,22 +376,30 @@ iota_of {E} {p} {Γ} {q} {f} {c} {n} {ts} {xs} {fs} {b} {C} {u} {js} {ks} {R} {Q
     o : Use
     o = outs (length (sub_binds π (scale q g.con.fields))) g.uses
 
-    same : ((i : ℕ) → Conv E (l.params i) (π i)) × ((i : ℕ) → Conv E (push (subs [] (push fs l.params) g.con.targets) var i) (push (g.scrutinee.indices +++ (node (Form.con f c (length (fam_at E f).params)) xs ▸ ε)) var i))
-    same = inj f c g.con g.is_con xs fs l.params l.split ts (P ▸ r.others) π r.split (args-size l.args) g.scrutinee.indices g.scrutinee.sized (subst (λ B. Conv E B (sub (push g.scrutinee.indices π) (fam_at E f).self)) (sym l.result) cq)
+    same : ((i : ℕ) → Conv E (l.params i) (π i)) ×
+        ((i : ℕ) → Conv E (push (subs [] (push fs l.params) g.con.targets) var i)
+        (push (g.scrutinee.indices +++ (node (Form.con f c (length (fam_at E f).params)) xs ▸ ε)) var i))
+    same = inj f c g.con g.is_con xs fs l.params l.split ts (P ▸ r.others) π r.split
+        (args-size l.args) g.scrutinee.indices g.scrutinee.sized
+        (subst (λ B. Conv E B (sub (push g.scrutinee.indices π) (fam_at E f).self)) (sym l.result) cq)
 
-iota_con : {E : Env} {p : Part} {Γ : Ctx} {q : Mult} {f : GlobalId} {c l n : ℕ} {ts xs : Terms} {b C T : Term} {u : Use} {js : List Judged} {R : Term} →
+iota_con : {E : Env} {p : Part} {Γ : Ctx} {q : Mult} {f : GlobalId} {c l n : ℕ} {ts xs : Terms} {b C T : Term}
+    {u : Use} {js : List Judged} {R : Term} →
     BodiesClosed E → FamilyInjective E → Usable p q →
     (r : Cased E p Γ (fam_at E f) q (fam_at E f).params closed ts c n b (node (Form.con f c l) xs) R js) →
     Conv E R C → InRun p (AtMost Γ (total zero_use js) u) →
     T ≡ sub (push r.picked.scrutinee.indices r.params) (fam_at E f).self →
     Has E p Γ (node (Form.con f c l) xs) T r.picked.scrutinee.uses →
     Has E p Γ (sub (push (skip l xs) var) b) C u
-iota_con {E} {p} {Γ} {f = f} {xs = xs} bodies inj m r cv fu e (Has.at_node {js = ks} {R = Q} (Rule.con {c = d} i h) hs cq fq) =
+iota_con {E} {p} {Γ} {f = f} {xs = xs} bodies inj m r cv fu e
+    (Has.at_node {js = ks} {R = Q} (Rule.con {c = d} i h) hs cq fq) =
     iota_of bodies inj m r
-    (subst (λ d. Fielded E p Γ d.fields (fam_at E f).params closed xs (skip (length (fam_at E f).params) xs) ks d.result Q) (is_con-one i r.picked.is_con) (find_fields h hs))
+    (subst (λ d. Fielded E p Γ d.fields (fam_at E f).params closed xs (skip (length (fam_at E f).params) xs) ks
+    d.result Q) (is_con-one i r.picked.is_con) (find_fields h hs))
     (subst (λ B. Conv E Q B) e cq) (no_branches h) fq cv fu
 
-pub has_iota : {E : Env} {p : Part} {Γ : Ctx} {q : Mult} {f : GlobalId} {c k l m n : ℕ} {ns : List ℕ} {ts xs : Terms} {b C : Term} {u : Use} →
+pub has_iota : {E : Env} {p : Part} {Γ : Ctx} {q : Mult} {f : GlobalId} {c k l m n : ℕ} {ns : List ℕ}
+    {ts xs : Terms} {b C : Term} {u : Use} →
     BodiesClosed E → FamilyInjective E → Picks c k ns ts n b (node (Form.con f c l) xs) →
     Has E p Γ (node (Form.case q f k m ns) ts) C u → Has E p Γ (sub (push (skip l xs) var) b) C u
 has_iota {p = p} {q = q} bodies inj k (Has.at_node (Rule.case there m h) hs cv fu) =

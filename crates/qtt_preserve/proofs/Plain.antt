@@ -21,9 +21,12 @@ usable-many : (p : Part) → Usable p ω
 usable-many Part.run = tt
 usable-many Part.erased = tt
 
-pub literal_has : {E : Env} (p : Part) (Γ : Ctx) (l : Lit) → Has E p Γ (literal_term l) (signature E (Named.lit l)).type zero_use
-literal_has p Γ (literal.Int z) = Has.at_node (Rule.named tt (usable-many p) Args.none) HasAll.none Conv.same (no-use p Γ)
-literal_has p Γ (literal.Text s) = Has.at_node (Rule.named tt (usable-many p) Args.none) HasAll.none Conv.same (no-use p Γ)
+pub literal_has : {E : Env} (p : Part) (Γ : Ctx) (l : Lit) →
+    Has E p Γ (literal_term l) (signature E (Named.lit l)).type zero_use
+literal_has p Γ (literal.Int z) =
+    Has.at_node (Rule.named tt (usable-many p) Args.none) HasAll.none Conv.same (no-use p Γ)
+literal_has p Γ (literal.Text s) =
+    Has.at_node (Rule.named tt (usable-many p) Args.none) HasAll.none Conv.same (no-use p Γ)
 
 pub handle_has : {E : Env} (Γ : Ctx) → Has E Part.erased Γ HandleTy (Sort 0) zero_use
 handle_has Γ = Has.at_node (Rule.named tt tt Args.none) HasAll.none Conv.same tt

@@ -1,5 +1,5 @@
 -- The runner keeps types and tapes.
-use Rattle.std.proofs.Common.{◌≡◌, ℕ, zero, suc, Bool, true, false, cond, List, [], ◌∷◌, ◌++◌, length, Option, Some, refl, sym, ◌∙◌, ap, subst, arith}
+use Rattle.std.proofs.Common.{◌≡◌, ◌≢◌, ℕ, zero, suc, Bool, true, false, cond, List, [], ◌∷◌, ◌++◌, length, Option, Some, refl, sym, ◌∙◌, ap, subst, arith}
 use mathlib.Core.Path.{subst₂}
 use Rattle.qtt_base.specs.declared.place.GlobalId.{GlobalId}
 use Rattle.qtt_usage.specs.declared.mult.Mult.{Mult}
@@ -40,7 +40,8 @@ as_use T (Key.h i) = open_use T i
 pub data Waiting (E : Env) (R : Term) : Io → Term → List Term → Use → Type 0 where
   none : {A : Term} → Conv E A R → Waiting E R Io.io A [] zero_use
   more : {m n : Io} {A B k : Term} {ks : List Term} {u w : Use} →
-      Has E Part.run [] k (Pi (mult_of m) A (IoTy n (ren suc B))) w → Waiting E R n B ks u → Waiting E R m A (k ∷ ks) (λ x. w x ⊕ u x)
+      Has E Part.run [] k (Pi (mult_of m) A (IoTy n (ren suc B))) w → Waiting E R n B ks u →
+      Waiting E R m A (k ∷ ks) (λ x. w x ⊕ u x)
 
 pub record Fine (E : Env) (R t : Term) (ks : List Term) (T : List Taped) : Type 0 where
   pub io : Io
@@ -59,8 +60,10 @@ record Invert (E : Env) (a : Action) (ts : Terms) (C : Term) (u : Use) : Type 0 
   conv : Conv E (sub (push ts closed) (act_signature a).type) C
   counted : AtMost [] (total zero_use asked) u
 
-invert : {E : Env} {a : Action} {ts : Terms} {C : Term} {u : Use} → Has E Part.run [] (Act a ts) C u → Invert E a ts C u
-invert (Has.at_node {js = js} (Rule.named there m a) hs c f) = record { asked = js; args = a; has = hs; conv = c; counted = f }
+invert : {E : Env} {a : Action} {j : ℕ} {ts : Terms} {C : Term} {u : Use} → Has E Part.run [] (Act a j ts) C u →
+    Invert E a ts C u
+invert (Has.at_node {js = js} (Rule.named there m a) hs c f) =
+    record { asked = js; args = a; has = hs; conv = c; counted = f }
 
 -- ---- tables
 abbrev pub IsFlag : Mult → Type 0
@@ -92,7 +95,8 @@ sum_pure y u w r t h j = grind arith
 sum_write : (h y u w t : Mult) → IsFlag t → (h ⊕ (ω ⊙ y ⊕ 𝟘)) ⊕ 𝟘 ≼ u → u ⊕ w ≼ t → h ⊕ w ≼ t
 sum_write h y u w t f i j = grind arith
 
-sum_open : (n y u w t : Mult) → (n ≡ 𝟙 → t ≡ 𝟘) → IsFlag n → IsFlag t → (ω ⊙ y ⊕ 𝟘) ⊕ 𝟘 ≼ u → u ⊕ w ≼ t → n ⊕ w ≼ with_one n t
+sum_open : (n y u w t : Mult) → (n ≡ 𝟙 → t ≡ 𝟘) → IsFlag n → IsFlag t →
+    (ω ⊙ y ⊕ 𝟘) ⊕ 𝟘 ≼ u → u ⊕ w ≼ t → n ⊕ w ≼ with_one n t
 sum_open n y u w t e f g i j = grind arith
 
 sum_close : (n h u w t : Mult) → IsFlag n → IsFlag t → n ≼ h → (h ⊕ 𝟘) ⊕ 𝟘 ≼ u → u ⊕ w ≼ t → w ≼ without_one n t
@@ -131,7 +135,8 @@ flags (t ∷ T) zero = bool_flag t.is_open
 flags (t ∷ T) (suc n) = flags T n
 
 -- the next number
-opened-flag : (T : List Taped) (s : List ℕ) (n : ℕ) → open_use (T ++ new_tape s ∷ []) n ≡ with_one (nat_unit (length T) n) (open_use T n)
+opened-flag : (T : List Taped) (s : List ℕ) (n : ℕ) →
+    open_use (T ++ new_tape s ∷ []) n ≡ with_one (nat_unit (length T) n) (open_use T n)
 opened-flag [] s zero = refl
 opened-flag [] s (suc n) = refl
 opened-flag (t ∷ T) s zero = refl
@@ -157,10 +162,12 @@ is-open zero g (t ∷ T) e = record { after = g t ∷ T; is = rw (open-one t.is_
 is-open (suc h) g (t ∷ T) e =
     let r = is-open h g T e in record { after = t ∷ r.after; is = rw r.is refl }
 
-kept-flag : (h : ℕ) (s : List ℕ) (T U : List Taped) → at_open h (with_line s) T ≡ Some U → (n : ℕ) → open_use U n ≡ open_use T n
+kept-flag : (h : ℕ) (s : List ℕ) (T U : List Taped) → at_open h (with_line s) T ≡ Some U →
+    (n : ℕ) → open_use U n ≡ open_use T n
 kept-flag h s [] U e n = absurd (none≢some e)
 kept-flag zero s (t ∷ T) U e n =
-    let r = cond-some t.is_open (Some (with_line s t ∷ T)) U e in subst (λ U. open_use U n ≡ open_use (t ∷ T) n) (some-injective r.1) (same n)
+    let r = cond-some t.is_open (Some (with_line s t ∷ T)) U e in subst (λ U. open_use U n ≡ open_use (t ∷ T) n)
+    (some-injective r.1) (same n)
   where
     same : (n : ℕ) → open_use (with_line s t ∷ T) n ≡ open_use (t ∷ T) n
     same zero = refl
@@ -173,24 +180,29 @@ kept-flag (suc h) s (t ∷ T) U e n =
     go V d zero = refl
     go V d (suc n) = d n
 
-shut-flag : (h : ℕ) (T U : List Taped) → at_open h shut T ≡ Some U → (n : ℕ) → open_use U n ≡ without_one (nat_unit h n) (open_use T n)
+shut-flag : (h : ℕ) (T U : List Taped) → at_open h shut T ≡ Some U →
+    (n : ℕ) → open_use U n ≡ without_one (nat_unit h n) (open_use T n)
 shut-flag h [] U e n = absurd (none≢some e)
 shut-flag zero (t ∷ T) U e n =
-    let r = cond-some t.is_open (Some (shut t ∷ T)) U e in subst (λ U. open_use U n ≡ without_one (nat_unit 0 n) (open_use (t ∷ T) n)) (some-injective r.1) (same n)
+    let r = cond-some t.is_open (Some (shut t ∷ T)) U e in
+    subst (λ U. open_use U n ≡ without_one (nat_unit 0 n) (open_use (t ∷ T) n)) (some-injective r.1) (same n)
   where
     same : (n : ℕ) → open_use (shut t ∷ T) n ≡ without_one (nat_unit 0 n) (open_use (t ∷ T) n)
     same zero = refl
     same (suc n) = refl
 shut-flag (suc h) (t ∷ T) U e n =
     let r = chain-some (at_open h shut T) (λ us. Some (t ∷ us)) U e in
-    subst (λ U. open_use U n ≡ without_one (nat_unit (suc h) n) (open_use (t ∷ T) n)) (some-injective r.2) (go r.0 (shut-flag h T r.0 r.1) n)
+    subst (λ U. open_use U n ≡ without_one (nat_unit (suc h) n) (open_use (t ∷ T) n)) (some-injective r.2)
+    (go r.0 (shut-flag h T r.0 r.1) n)
   where
-    go : (V : List Taped) → ((n : ℕ) → open_use V n ≡ without_one (nat_unit h n) (open_use T n)) → (n : ℕ) → open_use (t ∷ V) n ≡ without_one (nat_unit (suc h) n) (open_use (t ∷ T) n)
+    go : (V : List Taped) → ((n : ℕ) → open_use V n ≡ without_one (nat_unit h n) (open_use T n)) →
+        (n : ℕ) → open_use (t ∷ V) n ≡ without_one (nat_unit (suc h) n) (open_use (t ∷ T) n)
     go V d zero = refl
     go V d (suc n) = d n
 
-is-act : (F : Form) (m : Io) → value_kind F ≡ Kind.primitive (PrimTy.io_of m) → (a : Action) × (F ≡ Form.named (Named.act a))
-is-act (Form.named (Named.act a)) m e = (a, refl)
+is-act : (F : Form) (m : Io) → value_kind F ≡ Kind.primitive (PrimTy.io_of m) →
+    (a : Action) × (j : ℕ) × (F ≡ Form.named (Named.act a j))
+is-act (Form.named (Named.act a j)) m e = (a, j, refl)
 is-act (Form.named (Named.def x)) m e = absurd (cc e)
 is-act (Form.named (Named.prim x)) m e = absurd (cc e)
 is-act (Form.named (Named.prim_ty x)) m e = absurd (cc e)
@@ -198,7 +210,8 @@ is-act (Form.named (Named.lit (literal.Int z))) m e = absurd (cc e)
 is-act (Form.named (Named.lit (literal.Text z))) m e = absurd (cc e)
 is-act _ m e = absurd (cc e)
 
-all-values : (E : Env) (F : Form) (ts : Terms) (ms : List Mult) → finish E F ts (full_steps E ms ts) ≡ Outcome.value → full_steps E ms ts ≡ Outcomes.values
+all-values : (E : Env) (F : Form) (ts : Terms) (ms : List Mult) →
+    finish E F ts (full_steps E ms ts) ≡ Outcome.value → full_steps E ms ts ≡ Outcomes.values
 all-values E F ts ms e = (finish-values E F ts (full_steps E ms ts) e).0
 
 -- ---- what a turn keeps
@@ -210,76 +223,112 @@ Kept E R c (Turn.halts Verdict.stuck) = ⊥
 Kept E R c (Turn.halts Verdict.running) = ⊥
 
 module _ {E : Env} (sound : Sound E) (R : Term) where
-  waiting-conv : {m : Io} {A B : Term} {ks : List Term} {w : Use} → Waiting E R m A ks w → Conv E A B → Waiting E R m B ks w
+  waiting-conv : {m : Io} {A B : Term} {ks : List Term} {w : Use} → Waiting E R m A ks w → Conv E A B →
+      Waiting E R m B ks w
   waiting-conv (Waiting.none r) c = Waiting.none (Conv.thence (Conv.back c) r)
   waiting-conv {m} {A} {B} (Waiting.more {n = n} {B = D} {w = w} h ws) c =
-      Waiting.more (has_as E (Pi (mult_of m) B (IoTy n (ren suc D))) w h (conv-inside (Convs.more c (Convs.more Conv.same Convs.none))) (λ x s. ≼-refl (w x))) ws
+      Waiting.more (has_as E (Pi (mult_of m) B (IoTy n (ren suc D))) w h
+      (conv-inside (Convs.more c (Convs.more Conv.same Convs.none))) (λ x s. ≼-refl (w x))) ws
 
   -- continuations that wait for what the action gives
-  waits-for : {m o : Io} {A C : Term} {ks : List Term} {w : Use} → Conv E (IoTy m A) (IoTy o C) → Waiting E R o C ks w → Waiting E R m A ks w
+  waits-for : {m o : Io} {A C : Term} {ks : List Term} {w : Use} → Conv E (IoTy m A) (IoTy o C) →
+      Waiting E R o C ks w → Waiting E R m A ks w
   waits-for {m} {o} {A} {C} {ks} {w} c ws =
       let same : (m ≡ o) × Conv E A C = io_injective E sound.bodies m o A C c in
       waiting-conv (subst (λ o. Waiting E R o C ks w) (sym same.0) ws) (Conv.back same.1)
 
-  pure_term : (m : Io) {A v : Term} {u z : Use} → Has E Part.erased [] A (Sort 0) z → Has E (under Part.run (mult_of m)) [] v A u →
-      Has E Part.run [] (Act (Action.pure m) (A ▸ v ▸ ε)) (IoTy m A) (λ x. mult_of m ⊙ u x)
+  pure_term : (m : Io) {A v : Term} {u z : Use} → Has E Part.erased [] A (Sort 0) z →
+      Has E (under Part.run (mult_of m)) [] v A u →
+      Has E Part.run [] (Act (Action.pure m) 1 (A ▸ v ▸ ε)) (IoTy m A) (λ x. mult_of m ⊙ u x)
   pure_term m {A} {v} {u} {z} hA hv =
-      Has.at_node (Rule.named tt tt (Args.more {u = z} (Args.more {u = u} Args.none)))
+      Has.at_node (Rule.named refl tt (Args.more {u = z} (Args.more {u = u} Args.none)))
       (HasAll.more refl hA tt (HasAll.more refl hv (always (under Part.run (mult_of m)) tt) HasAll.none))
       Conv.same
       (λ x s. ≼-of (⊕-zero _ ∙ ⊕-zero (mult_of m ⊙ u x)))
 
-  rule-fam : {p : Part} {f : GlobalId} {F : Family} {ts : Terms} {js : List Judged} {R : Term} → There (E.family f) → family_at E f ≡ F →
-      ParamsThenArgs (erase_binds (index_binders 0 F.indices)) F.params closed ts js (Sort F.level) R → Rule E p (Form.fam f) ts js R zero_use
+  rule-fam : {p : Part} {f : GlobalId} {F : Family} {ts : Terms} {js : List Judged} {R : Term} →
+      There (E.family f) → family_at E f ≡ F →
+      ParamsThenArgs (erase_binds (index_binders 0 F.indices)) F.params closed ts js (Sort F.level) R →
+      Rule E p (Form.fam f) ts js R zero_use
   rule-fam {p} {f} {F} {ts} {js} {R} there e a =
-      subst (λ F. ParamsThenArgs (erase_binds (index_binders 0 F.indices)) F.params closed ts js (Sort F.level) R → Rule E p (Form.fam f) ts js R zero_use) e (λ a. Rule.fam there a) a
+      subst (λ F. ParamsThenArgs (erase_binds (index_binders 0 F.indices)) F.params closed ts js
+      (Sort F.level) R → Rule E p (Form.fam f) ts js R zero_use) e (λ a. Rule.fam there a) a
 
   unit_has : Has E Part.erased [] UnitTy (Sort 0) zero_use
-  unit_has = Has.at_node (rule-fam (there-some sound.prims.units) (ap family_of sound.prims.units) (ParamsThenArgs.done Args.none)) HasAll.none Conv.same tt
+  unit_has = Has.at_node (rule-fam (there-some sound.prims.units) (ap family_of sound.prims.units)
+      (ParamsThenArgs.done Args.none)) HasAll.none Conv.same tt
 
   line_has : Has E Part.erased [] LineTy (Sort 0) zero_use
-  line_has = Has.at_node (rule-fam (there-some sound.prims.lines) (ap family_of sound.prims.lines) (ParamsThenArgs.done Args.none)) HasAll.none Conv.same tt
+  line_has = Has.at_node (rule-fam (there-some sound.prims.lines) (ap family_of sound.prims.lines)
+      (ParamsThenArgs.done Args.none)) HasAll.none Conv.same tt
 
   mk_unit_has : Has E Part.run [] MkUnit UnitTy zero_use
-  mk_unit_has = Has.at_node (rule-con (ap family_of sound.prims.units) IsCon.here (ParamsThenArgs.done Args.none)) HasAll.none Conv.same (λ x s. tt)
+  mk_unit_has = Has.at_node (rule-con (ap family_of sound.prims.units) IsCon.here (ParamsThenArgs.done Args.none))
+      HasAll.none Conv.same (λ x s. tt)
 
   eof_has : Has E Part.run [] Eof LineTy zero_use
-  eof_has = Has.at_node (rule-con (ap family_of sound.prims.lines) IsCon.here (ParamsThenArgs.done Args.none)) HasAll.none Conv.same (λ x s. tt)
+  eof_has = Has.at_node (rule-con (ap family_of sound.prims.lines) IsCon.here (ParamsThenArgs.done Args.none))
+      HasAll.none Conv.same (λ x s. tt)
 
   got_has : (s : List ℕ) → Has E Part.run [] (Got (TextLit s)) LineTy zero_use
   got_has s =
-      Has.at_node (rule-con (ap family_of sound.prims.lines) (IsCon.there IsCon.here) (ParamsThenArgs.done (Args.more {u = zero_use} Args.none)))
+      Has.at_node (rule-con (ap family_of sound.prims.lines) (IsCon.there IsCon.here)
+      (ParamsThenArgs.done (Args.more {u = zero_use} Args.none)))
       (HasAll.more refl (literal_has Part.run [] (literal.Text s)) tt HasAll.none) Conv.same (λ x s. tt)
 
   tape_has : (n : ℕ) → Has E Part.run [] (Tape n) HandleTy (unit (Key.h n))
   tape_has n = Has.at_node Rule.tape HasAll.none Conv.same (λ x s. ≼-of (⊕-zero (unit (Key.h n) x)))
 
   inversion_tape : {n : ℕ} {C : Term} {u : Use} → Has E Part.run [] (Tape n) C u → (k : ℕ) → nat_unit n k ≼ u (Key.h k)
-  inversion_tape {n} {u = u} (Has.at_node Rule.tape HasAll.none c f) k = subst (λ m. m ≼ u (Key.h k)) (⊕-zero (nat_unit n k)) (f (Key.h k) tt)
+  inversion_tape {n} {u = u} (Has.at_node Rule.tape HasAll.none c f) k =
+      subst (λ m. m ≼ u (Key.h k)) (⊕-zero (nat_unit n k)) (f (Key.h k) tt)
 
   -- a pure value of no use, and a tape
-  plain : {A v C : Term} {o : Io} {ks : List Term} {w : Use} {T : List Taped} → Has E Part.erased [] A (Sort 0) zero_use → Has E Part.run [] v A zero_use →
-      Conv E (IoTy Io.io A) (IoTy o C) → Waiting E R o C ks w → ((k : ℕ) → w (Key.h k) ≼ open_use T k) → Fine E R (Act (Action.pure Io.io) (A ▸ v ▸ ε)) ks T
+  plain : {A v C : Term} {o : Io} {ks : List Term} {w : Use} {T : List Taped} →
+      Has E Part.erased [] A (Sort 0) zero_use → Has E Part.run [] v A zero_use →
+      Conv E (IoTy Io.io A) (IoTy o C) → Waiting E R o C ks w → ((k : ℕ) → w (Key.h k) ≼ open_use T k) →
+      Fine E R (Act (Action.pure Io.io) 1 (A ▸ v ▸ ε)) ks T
   plain {A} {ks = ks} {w = w} {T = T} hA hv c ws f =
-      record { io = Io.io; type = A; use_of_term = λ x. ω ⊙ zero_use x; use_of_waiting = w; has = pure_term Io.io hA hv; waits = waits-for c ws; counted = count }
+      record {
+        io = Io.io;
+        type = A;
+        use_of_term = λ x. ω ⊙ zero_use x;
+        use_of_waiting = w;
+        has = pure_term Io.io hA hv;
+        waits = waits-for c ws;
+        counted = count;
+      }
     where
       count : AtMost [] (λ x. ω ⊙ zero_use x ⊕ w x) (as_use T)
       count (Key.v i) s = absurd s
       count (Key.h k) s = f k
 
-  handled : {h : ℕ} {C : Term} {o : Io} {ks : List Term} {z w : Use} {T : List Taped} → Has E Part.run [] (Tape h) HandleTy z →
-      Conv E (IoTy Io.io1 HandleTy) (IoTy o C) → Waiting E R o C ks w → ((k : ℕ) → z (Key.h k) ⊕ w (Key.h k) ≼ open_use T k) → Fine E R (pure_handle h) ks T
+  handled : {h : ℕ} {C : Term} {o : Io} {ks : List Term} {z w : Use} {T : List Taped} →
+      Has E Part.run [] (Tape h) HandleTy z →
+      Conv E (IoTy Io.io1 HandleTy) (IoTy o C) → Waiting E R o C ks w →
+      ((k : ℕ) → z (Key.h k) ⊕ w (Key.h k) ≼ open_use T k) → Fine E R (pure_handle h) ks T
   handled {ks = ks} {z = z} {w = w} {T = T} ht c ws f =
-      record { io = Io.io1; type = HandleTy; use_of_term = λ x. z x; use_of_waiting = w; has = pure_term Io.io1 (handle_has []) ht; waits = waits-for c ws; counted = count }
+      record {
+        io = Io.io1;
+        type = HandleTy;
+        use_of_term = λ x. z x;
+        use_of_waiting = w;
+        has = pure_term Io.io1 (handle_has []) ht;
+        waits = waits-for c ws;
+        counted = count;
+      }
     where
       count : AtMost [] (λ x. z x ⊕ w x) (as_use T)
       count (Key.v i) s = absurd s
       count (Key.h k) s = f k
 
-  module _ (c : Config) (u w : Use) {o : Io} {C : Term} (ws : Waiting E R o C c.waiting w) (g : AtMost [] (λ x. u x ⊕ w x) (as_use c.tapes)) where
-    keep_bind : (m n : Io) {ts : Terms} {js : List Judged} → Args (act_signature (Action.bind m n)).arguments closed ts js → HasAll E Part.run [] [] ts js →
-        Conv E (sub (push ts closed) (act_signature (Action.bind m n)).type) (IoTy o C) → AtMost [] (total zero_use js) u → Kept E R c (perform c (Act (Action.bind m n) ts))
-    keep_bind m n (Args.more {a = A} (Args.more {a = B} (Args.more {u = y} (Args.more {u = z} Args.none))))
+  module _ (c : Config) (u w : Use) {o : Io} {C : Term} (ws : Waiting E R o C c.waiting w)
+      (g : AtMost [] (λ x. u x ⊕ w x) (as_use c.tapes)) where
+    keep_bind : (m n : Io) (j : ℕ) {ts : Terms} {js : List Judged} →
+        Args (act_signature (Action.bind m n)).arguments closed ts js → HasAll E Part.run [] [] ts js →
+        Conv E (sub (push ts closed) (act_signature (Action.bind m n)).type) (IoTy o C) →
+        AtMost [] (total zero_use js) u → Kept E R c (perform c (Act (Action.bind m n) j ts))
+    keep_bind m n j (Args.more {a = A} (Args.more {a = B} (Args.more {u = y} (Args.more {u = z} Args.none))))
         (HasAll.more e₀ h₀ f₀ (HasAll.more e₁ h₁ f₁ (HasAll.more e₂ ht f₂ (HasAll.more e₃ hk f₃ HasAll.none)))) cv d =
         record {
           io = m;
@@ -291,83 +340,123 @@ module _ {E : Env} (sound : Sound E) (R : Term) where
           counted = λ x s. sum_bind (y x) (z x) (u x) (w x) (as_use c.tapes x) (d x s) (g x s);
         }
 
-    keep_put : {ts : Terms} {js : List Judged} → Args (act_signature Action.put_line).arguments closed ts js → HasAll E Part.run [] [] ts js →
-        full_steps E (ω ∷ []) ts ≡ Outcomes.values → Conv E (IoTy Io.io UnitTy) (IoTy o C) → AtMost [] (total zero_use js) u → Kept E R c (perform c (Act Action.put_line ts))
-    keep_put (Args.more {a = t} {u = y} Args.none) (HasAll.more e h f HasAll.none) v cv d =
+    keep_put : (j : ℕ) {ts : Terms} {js : List Judged} →
+        Args (act_signature Action.put_line).arguments closed ts js → HasAll E Part.run [] [] ts js →
+        full_steps E (ω ∷ []) ts ≡ Outcomes.values → Conv E (IoTy Io.io UnitTy) (IoTy o C) →
+        AtMost [] (total zero_use js) u → Kept E R c (perform c (Act Action.put_line j ts))
+    keep_put j (Args.more {a = t} {u = y} Args.none) (HasAll.more e h f HasAll.none) v cv d =
         let (x, e) = text_value sound.bodies h (before-values (full_step E t) t ε Outcomes.values v).0 in
-        subst (λ t. Kept E R c (perform c (Act Action.put_line (t ▸ ε)))) (sym e)
-        (plain unit_has mk_unit_has cv ws (λ k. flag_many (y (Key.h k)) (u (Key.h k)) (w (Key.h k)) (open_use c.tapes k) (flags c.tapes k) (d (Key.h k) tt) (g (Key.h k) tt)))
+        subst (λ t. Kept E R c (perform c (Act Action.put_line j (t ▸ ε)))) (sym e)
+        (plain unit_has mk_unit_has cv ws
+        (λ k. flag_many (y (Key.h k)) (u (Key.h k)) (w (Key.h k)) (open_use c.tapes k) (flags c.tapes k)
+        (d (Key.h k) tt) (g (Key.h k) tt)))
 
-    none_used : {js : List Judged} → Args [] closed ε js → AtMost [] (total zero_use js) u → (k : ℕ) → w (Key.h k) ≼ open_use c.tapes k
-    none_used Args.none d k = flag_none (u (Key.h k)) (w (Key.h k)) (open_use c.tapes k) (d (Key.h k) tt) (flags c.tapes k) (g (Key.h k) tt)
+    none_used : {js : List Judged} → Args [] closed ε js → AtMost [] (total zero_use js) u →
+        (k : ℕ) → w (Key.h k) ≼ open_use c.tapes k
+    none_used Args.none d k =
+        flag_none (u (Key.h k)) (w (Key.h k)) (open_use c.tapes k) (d (Key.h k) tt) (flags c.tapes k)
+        (g (Key.h k) tt)
 
-    keep_line : (b : Bool) (s r : List ℕ) → Conv E (IoTy Io.io LineTy) (IoTy o C) → ((k : ℕ) → w (Key.h k) ≼ open_use c.tapes k) →
-        Kept E R c (cond b (Turn.goes (record c { term = pure_line (Got (TextLit s)); input = r })) (Turn.halts (Verdict.trapped Cause.bad_input_line)))
+    keep_line : (b : Bool) (s r : List ℕ) → Conv E (IoTy Io.io LineTy) (IoTy o C) →
+        ((k : ℕ) → w (Key.h k) ≼ open_use c.tapes k) →
+        Kept E R c (cond b (Turn.goes (record c { term = pure_line (Got (TextLit s)); input = r }))
+        (Turn.halts (Verdict.trapped Cause.bad_input_line)))
     keep_line true s r cv f = plain line_has (got_has s) cv ws f
     keep_line false s r cv f = tt
 
-    keep_read : (bs : List ℕ) → Conv E (IoTy Io.io LineTy) (IoTy o C) → ((k : ℕ) → w (Key.h k) ≼ open_use c.tapes k) → Kept E R c (read c bs)
+    keep_read : (bs : List ℕ) → Conv E (IoTy Io.io LineTy) (IoTy o C) →
+        ((k : ℕ) → w (Key.h k) ≼ open_use c.tapes k) → Kept E R c (read c bs)
     keep_read [] cv f = plain line_has eof_has cv ws f
     keep_read (b ∷ bs) cv f = keep_line (is_line (line_of (b ∷ bs))) (line_of (b ∷ bs)) (after_line (b ∷ bs)) cv f
 
-    keep_get : {ts : Terms} {js : List Judged} → Args (act_signature Action.get_line).arguments closed ts js → Conv E (IoTy Io.io LineTy) (IoTy o C) → AtMost [] (total zero_use js) u →
-        Kept E R c (perform c (Act Action.get_line ts))
-    keep_get Args.none cv d = keep_read c.input cv (none_used Args.none d)
+    keep_get : (j : ℕ) {ts : Terms} {js : List Judged} →
+        Args (act_signature Action.get_line).arguments closed ts js → Conv E (IoTy Io.io LineTy) (IoTy o C) →
+        AtMost [] (total zero_use js) u →
+        Kept E R c (perform c (Act Action.get_line j ts))
+    keep_get j Args.none cv d = keep_read c.input cv (none_used Args.none d)
 
-    keep_open : {ts : Terms} {js : List Judged} → Args (act_signature Action.opens).arguments closed ts js → HasAll E Part.run [] [] ts js →
-        full_steps E (ω ∷ []) ts ≡ Outcomes.values → Conv E (IoTy Io.io1 HandleTy) (IoTy o C) → AtMost [] (total zero_use js) u → Kept E R c (perform c (Act Action.opens ts))
-    keep_open (Args.more {a = t} {u = y} Args.none) (HasAll.more e h f HasAll.none) v cv d =
+    keep_open : (j : ℕ) {ts : Terms} {js : List Judged} →
+        Args (act_signature Action.opens).arguments closed ts js → HasAll E Part.run [] [] ts js →
+        full_steps E (ω ∷ []) ts ≡ Outcomes.values → Conv E (IoTy Io.io1 HandleTy) (IoTy o C) →
+        AtMost [] (total zero_use js) u → Kept E R c (perform c (Act Action.opens j ts))
+    keep_open j (Args.more {a = t} {u = y} Args.none) (HasAll.more e h f HasAll.none) v cv d =
         let (x, e) = text_value sound.bodies h (before-values (full_step E t) t ε Outcomes.values v).0 in
-        subst (λ t. Kept E R c (perform c (Act Action.opens (t ▸ ε)))) (sym e)
-        (handled (tape_has (length c.tapes)) cv ws (λ k. subst (λ z. nat_unit (length c.tapes) k ⊕ w (Key.h k) ≼ z) (sym (opened-flag c.tapes x k))
-        (sum_open (nat_unit (length c.tapes) k) (y (Key.h k)) (u (Key.h k)) (w (Key.h k)) (open_use c.tapes k) (fresh-flag c.tapes k)
+        subst (λ t. Kept E R c (perform c (Act Action.opens j (t ▸ ε)))) (sym e)
+        (handled (tape_has (length c.tapes)) cv ws
+        (λ k. subst (λ z. nat_unit (length c.tapes) k ⊕ w (Key.h k) ≼ z) (sym (opened-flag c.tapes x k))
+        (sum_open (nat_unit (length c.tapes) k) (y (Key.h k)) (u (Key.h k)) (w (Key.h k)) (open_use c.tapes k)
+        (fresh-flag c.tapes k)
         (unit_flag (length c.tapes) k) (flags c.tapes k) (d (Key.h k) tt) (g (Key.h k) tt))))
 
-    use-open : (t : Term) (e : Event) (p : Option (List Taped)) (U : List Taped) → p ≡ Some U → Fine E R t c.waiting U → Kept E R c (use_tape c t e p)
+    use-open : (t : Term) (e : Event) (p : Option (List Taped)) (U : List Taped) → p ≡ Some U →
+        Fine E R t c.waiting U → Kept E R c (use_tape c t e p)
     use-open t e p U d f = rw d f
 
-    write_at : (h : ℕ) (s : List ℕ) (z y : Use) → Has E Part.run [] (Tape h) HandleTy z → Conv E (IoTy Io.io1 HandleTy) (IoTy o C) →
-        AtMost [] (λ x. (z x ⊕ (ω ⊙ y x ⊕ 𝟘)) ⊕ 𝟘) u → Kept E R c (perform c (Act Action.writes (Tape h ▸ TextLit s ▸ ε)))
-    write_at h s z y ht cv d =
-        let r = is-open h (with_line s) c.tapes (table_write (nat_unit h h) (z (Key.h h)) (y (Key.h h)) (u (Key.h h)) (w (Key.h h)) (open_use c.tapes h) (unit_same h) (inversion_tape ht h) (flags c.tapes h) (d (Key.h h) tt) (g (Key.h h) tt)) in
+    write_at : (j h : ℕ) (s : List ℕ) (z y : Use) → Has E Part.run [] (Tape h) HandleTy z →
+        Conv E (IoTy Io.io1 HandleTy) (IoTy o C) →
+        AtMost [] (λ x. (z x ⊕ (ω ⊙ y x ⊕ 𝟘)) ⊕ 𝟘) u →
+        Kept E R c (perform c (Act Action.writes j (Tape h ▸ TextLit s ▸ ε)))
+    write_at j h s z y ht cv d =
+        let r = is-open h (with_line s) c.tapes
+        (table_write (nat_unit h h) (z (Key.h h)) (y (Key.h h)) (u (Key.h h)) (w (Key.h h))
+        (open_use c.tapes h) (unit_same h) (inversion_tape ht h) (flags c.tapes h) (d (Key.h h) tt)
+        (g (Key.h h) tt)) in
         use-open (pure_handle h) (Event.wrote h s) (at_open h (with_line s) c.tapes) r.after r.is
         (handled ht cv ws (λ k. subst (λ f. z (Key.h k) ⊕ w (Key.h k) ≼ f) (sym (kept-flag h s c.tapes r.after r.is k))
-        (sum_write (z (Key.h k)) (y (Key.h k)) (u (Key.h k)) (w (Key.h k)) (open_use c.tapes k) (flags c.tapes k) (d (Key.h k) tt) (g (Key.h k) tt))))
+        (sum_write (z (Key.h k)) (y (Key.h k)) (u (Key.h k)) (w (Key.h k)) (open_use c.tapes k) (flags c.tapes k)
+        (d (Key.h k) tt) (g (Key.h k) tt))))
 
-    keep_write : {ts : Terms} {js : List Judged} → Args (act_signature Action.writes).arguments closed ts js → HasAll E Part.run [] [] ts js →
-        full_steps E (𝟙 ∷ ω ∷ []) ts ≡ Outcomes.values → Conv E (IoTy Io.io1 HandleTy) (IoTy o C) → AtMost [] (total zero_use js) u → Kept E R c (perform c (Act Action.writes ts))
-    keep_write (Args.more {a = t} {u = z} (Args.more {a = s} {u = y} Args.none)) (HasAll.more e ht f (HasAll.more e₁ hs f₁ HasAll.none)) v cv d =
+    keep_write : (j : ℕ) {ts : Terms} {js : List Judged} →
+        Args (act_signature Action.writes).arguments closed ts js → HasAll E Part.run [] [] ts js →
+        full_steps E (𝟙 ∷ ω ∷ []) ts ≡ Outcomes.values → Conv E (IoTy Io.io1 HandleTy) (IoTy o C) →
+        AtMost [] (total zero_use js) u → Kept E R c (perform c (Act Action.writes j ts))
+    keep_write j (Args.more {a = t} {u = z} (Args.more {a = s} {u = y} Args.none))
+        (HasAll.more e ht f (HasAll.more e₁ hs f₁ HasAll.none)) v cv d =
         let p = before-values (full_step E t) t (s ▸ ε) _ v in
         let q = before-values (full_step E s) s ε _ p.1 in
         let (h, a) = tape_value sound.bodies ht p.0 in
         let (x, b) = text_value sound.bodies hs q.0 in
-        subst₂ (λ t s. Kept E R c (perform c (Act Action.writes (t ▸ s ▸ ε)))) (sym a) (sym b) (write_at h x z y (subst (λ t. Has E Part.run [] t HandleTy z) a ht) cv d)
+        subst₂ (λ t s. Kept E R c (perform c (Act Action.writes j (t ▸ s ▸ ε)))) (sym a) (sym b)
+        (write_at j h x z y (subst (λ t. Has E Part.run [] t HandleTy z) a ht) cv d)
 
-    close_at : (h : ℕ) (z : Use) → Has E Part.run [] (Tape h) HandleTy z → Conv E (IoTy Io.io UnitTy) (IoTy o C) →
-        AtMost [] (λ x. (z x ⊕ 𝟘) ⊕ 𝟘) u → Kept E R c (perform c (Act Action.closes (Tape h ▸ ε)))
-    close_at h z ht cv d =
-        let r = is-open h shut c.tapes (table_close (nat_unit h h) (z (Key.h h)) (u (Key.h h)) (w (Key.h h)) (open_use c.tapes h) (unit_same h) (inversion_tape ht h) (flags c.tapes h) (d (Key.h h) tt) (g (Key.h h) tt)) in
+    close_at : (j h : ℕ) (z : Use) → Has E Part.run [] (Tape h) HandleTy z → Conv E (IoTy Io.io UnitTy) (IoTy o C) →
+        AtMost [] (λ x. (z x ⊕ 𝟘) ⊕ 𝟘) u → Kept E R c (perform c (Act Action.closes j (Tape h ▸ ε)))
+    close_at j h z ht cv d =
+        let r = is-open h shut c.tapes
+        (table_close (nat_unit h h) (z (Key.h h)) (u (Key.h h)) (w (Key.h h)) (open_use c.tapes h)
+        (unit_same h) (inversion_tape ht h) (flags c.tapes h) (d (Key.h h) tt) (g (Key.h h) tt)) in
         use-open pure_unit (Event.closed_tape h) (at_open h shut c.tapes) r.after r.is
         (plain unit_has mk_unit_has cv ws (λ k. subst (λ f. w (Key.h k) ≼ f) (sym (shut-flag h c.tapes r.after r.is k))
-        (sum_close (nat_unit h k) (z (Key.h k)) (u (Key.h k)) (w (Key.h k)) (open_use c.tapes k) (unit_flag h k) (flags c.tapes k) (inversion_tape ht k) (d (Key.h k) tt) (g (Key.h k) tt))))
+        (sum_close (nat_unit h k) (z (Key.h k)) (u (Key.h k)) (w (Key.h k)) (open_use c.tapes k) (unit_flag h k)
+        (flags c.tapes k) (inversion_tape ht k) (d (Key.h k) tt) (g (Key.h k) tt))))
 
-    keep_close : {ts : Terms} {js : List Judged} → Args (act_signature Action.closes).arguments closed ts js → HasAll E Part.run [] [] ts js →
-        full_steps E (𝟙 ∷ []) ts ≡ Outcomes.values → Conv E (IoTy Io.io UnitTy) (IoTy o C) → AtMost [] (total zero_use js) u → Kept E R c (perform c (Act Action.closes ts))
-    keep_close (Args.more {a = t} {u = z} Args.none) (HasAll.more e ht f HasAll.none) v cv d =
+    keep_close : (j : ℕ) {ts : Terms} {js : List Judged} →
+        Args (act_signature Action.closes).arguments closed ts js → HasAll E Part.run [] [] ts js →
+        full_steps E (𝟙 ∷ []) ts ≡ Outcomes.values → Conv E (IoTy Io.io UnitTy) (IoTy o C) →
+        AtMost [] (total zero_use js) u → Kept E R c (perform c (Act Action.closes j ts))
+    keep_close j (Args.more {a = t} {u = z} Args.none) (HasAll.more e ht f HasAll.none) v cv d =
         let (h, a) = tape_value sound.bodies ht (before-values (full_step E t) t ε Outcomes.values v).0 in
-        subst (λ t. Kept E R c (perform c (Act Action.closes (t ▸ ε)))) (sym a) (close_at h z (subst (λ t. Has E Part.run [] t HandleTy z) a ht) cv d)
+        subst (λ t. Kept E R c (perform c (Act Action.closes j (t ▸ ε)))) (sym a)
+        (close_at j h z (subst (λ t. Has E Part.run [] t HandleTy z) a ht) cv d)
 
-  app_term : {q : Mult} {A C X v k D : Term} {w y : Use} → Has E Part.run [] k (Pi q C X) w → Has E (under Part.run q) [] v A y → Conv E A C → inst X v ≡ D →
+  app_term : {q : Mult} {A C X v k D : Term} {w y : Use} → Has E Part.run [] k (Pi q C X) w →
+      Has E (under Part.run q) [] v A y → Conv E A C → inst X v ≡ D →
       Has E Part.run [] (App q k v) D (λ x. w x ⊕ q ⊙ y x)
   app_term {q} {A} {C} {X} {v} {k} {D} {w} {y} hk hv c e =
       subst (λ D. Has E Part.run [] (App q k v) D (λ x. w x ⊕ q ⊙ y x)) e
-      (Has.at_node (Rule.app {u = w} {w = y}) (HasAll.more refl hk tt (HasAll.more refl (has_as E C y hv c (always (under Part.run q) λ x s. ≼-refl (y x))) (always (under Part.run q) tt) HasAll.none))
+      (Has.at_node (Rule.app {u = w} {w = y})
+      (HasAll.more refl hk tt
+      (HasAll.more refl (has_as E C y hv c (always (under Part.run q) λ x s. ≼-refl (y x)))
+      (always (under Part.run q) tt) HasAll.none))
       Conv.same (λ x s. ≼-of (⊕-zero _ ∙ ap (λ n. w x ⊕ n) (⊕-zero (q ⊙ y x)))))
 
-  keep_resume : (c : Config) (u w y : Use) (m : Io) {o : Io} {A C v : Term} (ks : List Term) → Waiting E R o C ks w → Has E (under Part.run (mult_of m)) [] v A y →
-      Conv E (IoTy m A) (IoTy o C) → AtMost [] (λ x. (mult_of m ⊙ y x ⊕ 𝟘) ⊕ 𝟘) u → AtMost [] (λ x. u x ⊕ w x) (as_use c.tapes) → Kept E R c (resume m v c ks)
+  keep_resume : (c : Config) (u w y : Use) (m : Io) {o : Io} {A C v : Term} (ks : List Term) →
+      Waiting E R o C ks w → Has E (under Part.run (mult_of m)) [] v A y →
+      Conv E (IoTy m A) (IoTy o C) → AtMost [] (λ x. (mult_of m ⊙ y x ⊕ 𝟘) ⊕ 𝟘) u →
+      AtMost [] (λ x. u x ⊕ w x) (as_use c.tapes) → Kept E R c (resume m v c ks)
   keep_resume c u w y m [] (Waiting.none z) hv cv d g = λ n.
-      end_table m (y (Key.h n)) (u (Key.h n)) (open_use c.tapes n) (io_injective E sound.bodies m Io.io _ _ cv).0 (flags c.tapes n) (d (Key.h n) tt) (g (Key.h n) tt)
+      end_table m (y (Key.h n)) (u (Key.h n)) (open_use c.tapes n) (io_injective E sound.bodies m Io.io _ _ cv).0
+      (flags c.tapes n) (d (Key.h n) tt) (g (Key.h n) tt)
   keep_resume c u w y m {o} {A} {C} {v} (k ∷ ks) (Waiting.more {n = n} {B = B} {u = r} {w = z} hk ws) hv cv d g =
       let same : (m ≡ o) × Conv E A C = io_injective E sound.bodies m o A C cv in
       record {
@@ -375,40 +464,64 @@ module _ {E : Env} (sound : Sound E) (R : Term) where
         type = B;
         use_of_term = λ x. z x ⊕ mult_of m ⊙ y x;
         use_of_waiting = r;
-        has = app_term (subst (λ o. Has E Part.run [] k (Pi (mult_of o) C (IoTy n (ren suc B))) z) (sym same.0) hk) hv same.1 (ap (IoTy n) (inst-ren v B));
+        has = app_term (subst (λ o. Has E Part.run [] k (Pi (mult_of o) C (IoTy n (ren suc B))) z)
+            (sym same.0) hk) hv same.1 (ap (IoTy n) (inst-ren v B));
         waits = ws;
         counted = λ x s. sum_pure (mult_of m ⊙ y x) (u x) (z x) (r x) (as_use c.tapes x) (d x s) (g x s);
       }
 
-  keep_pure : (c : Config) (u w : Use) {o : Io} {C : Term} → Waiting E R o C c.waiting w → AtMost [] (λ x. u x ⊕ w x) (as_use c.tapes) →
-      (m : Io) {ts : Terms} {js : List Judged} → Args (act_signature (Action.pure m)).arguments closed ts js → HasAll E Part.run [] [] ts js →
-      Conv E (sub (push ts closed) (act_signature (Action.pure m)).type) (IoTy o C) → AtMost [] (total zero_use js) u → Kept E R c (perform c (Act (Action.pure m) ts))
-  keep_pure c u w ws g m (Args.more {a = A} (Args.more {a = v} {u = y} Args.none)) (HasAll.more e₀ h₀ f₀ (HasAll.more e₁ hv f₁ HasAll.none)) cv d =
+  keep_pure : (c : Config) (u w : Use) {o : Io} {C : Term} → Waiting E R o C c.waiting w →
+      AtMost [] (λ x. u x ⊕ w x) (as_use c.tapes) →
+      (m : Io) (j : ℕ) {ts : Terms} {js : List Judged} →
+      Args (act_signature (Action.pure m)).arguments closed ts js → HasAll E Part.run [] [] ts js →
+      Conv E (sub (push ts closed) (act_signature (Action.pure m)).type) (IoTy o C) →
+      AtMost [] (total zero_use js) u → Kept E R c (perform c (Act (Action.pure m) j ts))
+  keep_pure c u w ws g m j (Args.more {a = A} (Args.more {a = v} {u = y} Args.none))
+      (HasAll.more e₀ h₀ f₀ (HasAll.more e₁ hv f₁ HasAll.none)) cv d =
       keep_resume c u w y m c.waiting ws hv cv d g
 
-  keep_act : (c : Config) (a : Action) (ts : Terms) → full_steps E (mults (act_signature a).arguments) ts ≡ Outcomes.values → Fine E R (Act a ts) c.waiting c.tapes → Kept E R c (perform c (Act a ts))
-  keep_act c (Action.pure m) ts v f = let i = invert f.has in keep_pure c f.use_of_term f.use_of_waiting f.waits f.counted m i.args i.has i.conv i.counted
-  keep_act c (Action.bind m n) ts v f = let i = invert f.has in keep_bind c f.use_of_term f.use_of_waiting f.waits f.counted m n i.args i.has i.conv i.counted
-  keep_act c Action.put_line ts v f = let i = invert f.has in keep_put c f.use_of_term f.use_of_waiting f.waits f.counted i.args i.has v i.conv i.counted
-  keep_act c Action.get_line ts v f = let i = invert f.has in keep_get c f.use_of_term f.use_of_waiting f.waits f.counted i.args i.conv i.counted
-  keep_act c Action.opens ts v f = let i = invert f.has in keep_open c f.use_of_term f.use_of_waiting f.waits f.counted i.args i.has v i.conv i.counted
-  keep_act c Action.writes ts v f = let i = invert f.has in keep_write c f.use_of_term f.use_of_waiting f.waits f.counted i.args i.has v i.conv i.counted
-  keep_act c Action.closes ts v f = let i = invert f.has in keep_close c f.use_of_term f.use_of_waiting f.waits f.counted i.args i.has v i.conv i.counted
+  keep_act : (c : Config) (a : Action) (j : ℕ) (ts : Terms) →
+      full_steps E (mults (act_signature a).arguments) ts ≡ Outcomes.values →
+      Fine E R (Act a j ts) c.waiting c.tapes → Kept E R c (perform c (Act a j ts))
+  keep_act c (Action.pure m) j ts v f = let i =
+      invert f.has in keep_pure c f.use_of_term f.use_of_waiting f.waits f.counted m j i.args i.has i.conv
+      i.counted
+  keep_act c (Action.bind m n) j ts v f = let i =
+      invert f.has in keep_bind c f.use_of_term f.use_of_waiting f.waits f.counted m n j i.args i.has i.conv
+      i.counted
+  keep_act c Action.put_line j ts v f = let i =
+      invert f.has in keep_put c f.use_of_term f.use_of_waiting f.waits f.counted j i.args i.has v i.conv
+      i.counted
+  keep_act c Action.get_line j ts v f = let i =
+      invert f.has in keep_get c f.use_of_term f.use_of_waiting f.waits f.counted j i.args i.conv i.counted
+  keep_act c Action.opens j ts v f = let i =
+      invert f.has in keep_open c f.use_of_term f.use_of_waiting f.waits f.counted j i.args i.has v i.conv
+      i.counted
+  keep_act c Action.writes j ts v f = let i =
+      invert f.has in keep_write c f.use_of_term f.use_of_waiting f.waits f.counted j i.args i.has v i.conv
+      i.counted
+  keep_act c Action.closes j ts v f = let i =
+      invert f.has in keep_close c f.use_of_term f.use_of_waiting f.waits f.counted j i.args i.has v i.conv
+      i.counted
 
   -- a value of an IO type is an action
-  act_value : {t A : Term} {m : Io} {u : Use} → Has E Part.run [] t (IoTy m A) u → full_step E t ≡ Outcome.value → (a : Action) × (ts : Terms) × (t ≡ Act a ts)
+  act_value : {t A : Term} {m : Io} {u : Use} → Has E Part.run [] t (IoTy m A) u → full_step E t ≡ Outcome.value →
+      (a : Action) × (j : ℕ) × (ts : Terms) × (t ≡ Act a j ts)
   act_value {t} {A} {m} h v =
       let (F, ts, e, k) = value_at sound.bodies h v (stiff-prim_ty E (PrimTy.io_of m)) in
-      let (a, d) = is-act F m k in
-      (a, ts, e ∙ ap (λ F. node F ts) d)
+      let (a, j, d) = is-act F m k in
+      (a, j, ts, e ∙ ap (λ F. node F ts) d)
 
-  keep_value : (c : Config) → full_step E c.term ≡ Outcome.value → Fine E R c.term c.waiting c.tapes → Kept E R c (perform c c.term)
+  keep_value : (c : Config) → full_step E c.term ≡ Outcome.value → Fine E R c.term c.waiting c.tapes →
+      Kept E R c (perform c c.term)
   keep_value c v f =
-      let (a, ts, e) = act_value f.has v in
+      let (a, j, ts, e) = act_value f.has v in
       subst (λ t. Kept E R c (perform c t)) (sym e)
-      (keep_act c a ts (all-values E (Form.named (Named.act a)) ts _ (subst (λ t. full_step E t ≡ Outcome.value) e v)) (subst (λ t. Fine E R t c.waiting c.tapes) e f))
+      (keep_act c a j ts (all-values E (Form.named (Named.act a j)) ts _
+      (subst (λ t. full_step E t ≡ Outcome.value) e v)) (subst (λ t. Fine E R t c.waiting c.tapes) e f))
 
-  keep_step : (c : Config) (s : Term) → full_step E c.term ≡ Outcome.step s → Fine E R c.term c.waiting c.tapes → Fine E R s c.waiting c.tapes
+  keep_step : (c : Config) (s : Term) → full_step E c.term ≡ Outcome.step s → Fine E R c.term c.waiting c.tapes →
+      Fine E R s c.waiting c.tapes
   keep_step c s e f = record {
     io = f.io;
     type = f.type;
@@ -418,6 +531,17 @@ module _ {E : Env} (sound : Sound E) (R : Term) where
     waits = f.waits;
     counted = f.counted;
   }
+
+  -- a turn that is not stuck, whatever bodies there are
+  pub turn_keeps : (c : Config) → Fine E R c.term c.waiting c.tapes →
+      (t : Turn) → turn E c ≡ t → t ≢ Turn.halts Verdict.stuck → Kept E R c t
+  turn_keeps c f t q moves = go (full_step E c.term) refl q
+    where
+      go : (o : Outcome) → full_step E c.term ≡ o → take_turn c o ≡ t → Kept E R c t
+      go Outcome.value e p = subst (Kept E R c) p (keep_value c e f)
+      go (Outcome.step s) e p = subst (Kept E R c) p (keep_step c s e f)
+      go (Outcome.trap k) e p = subst (Kept E R c) p tt
+      go Outcome.stuck e p = absurd (moves (sym p))
 
   pub turn_kept : Bodied E → (c : Config) → Fine E R c.term c.waiting c.tapes → Kept E R c (turn E c)
   turn_kept whole c f = go (full_step E c.term) refl (progress sound.bodies sound.prims whole c.term f.has)

@@ -32,10 +32,14 @@ mutual
   typed-below (Typed.by_rule r hs e) = all-typed-below hs
   typed-below (Typed.conversion h c) = typed-below h
 
-  all-typed-below : {E : Env} {p : Part} {Γ : Ctx} {ns : List ℕ} {ts : Terms} {js : List Judged} → TypedAll E p Γ ns ts js → AllBelow ns (length Γ) ts
+  all-typed-below : {E : Env} {p : Part} {Γ : Ctx} {ns : List ℕ} {ts : Terms} {js : List Judged} →
+      TypedAll E p Γ ns ts js → AllBelow ns (length Γ) ts
   all-typed-below TypedAll.none = tt
-  all-typed-below {Γ = Γ} {ns = ns} (TypedAll.more {t = t} {j = j} e h f hs) =
-      (subst (λ n. Below n t) (let l : length (ext Γ j.binds) ≡ length j.binds + length Γ = length-ext Γ j.binds in omega arith) (typed-below h), all-typed-below hs)
+  all-typed-below {Γ = Γ} {ns = ns} (TypedAll.more {t = t} {j = j} e h f hs) = (
+    subst (λ n. Below n t) (let l : length (ext Γ j.binds) ≡ length j.binds + length Γ = length-ext Γ j.binds
+        in omega arith) (typed-below h),
+    all-typed-below hs,
+  )
 
 -- ---- definitions
 -- a body has its type in each part in which the definition may be used
@@ -49,14 +53,16 @@ pub record Sound (E : Env) : Type 0 where
   pub typed : BodiesTyped E
   pub prims : HasPrim E
 
-in-part : {E : Env} {b A : Term} {u : Use} (q : Mult) (p : Part) → Usable p q → Has E (part_of q) [] b A u → Has E p [] b A u
+in-part : {E : Env} {b A : Term} {u : Use} (q : Mult) (p : Part) → Usable p q → Has E (part_of q) [] b A u →
+    Has E p [] b A u
 in-part 𝟘 Part.run m h = absurd m
 in-part 𝟙 Part.run m h = h
 in-part ω Part.run m h = h
 in-part q Part.erased m h = erase h
 
 -- a definition that has a body is there
-there-formed : {E : Env} (o : Option Definition) (b : Term) → ((D : Definition) → o ≡ Some D → DefinitionFormed E D) → (definition_of o).body ≡ Some b →
+there-formed : {E : Env} (o : Option Definition) (b : Term) →
+    ((D : Definition) → o ≡ Some D → DefinitionFormed E D) → (definition_of o).body ≡ Some b →
     DefinitionFormed E (definition_of o)
 there-formed None b w e = absurd (none≢some e)
 there-formed (Some D) b w e = w D refl
@@ -68,7 +74,8 @@ pub sound_of : {E : Env} → WellFormed E → Sound E
 sound_of {E} w = record {
   bodies = λ d b e. (formed d b e).closed b e;
   typed = λ d b e p m.
-      subst (λ A. Has E p [] b A zero_use) (sym (closed-kept (definition_at E d).type (type-closed (formed d b e)) closed))
+      subst (λ A. Has E p [] b A zero_use)
+      (sym (closed-kept (definition_at E d).type (type-closed (formed d b e)) closed))
       (in-part (definition_at E d).mult p m (typed-has ((formed d b e).typed b e)));
   prims = w.prims;
 }
@@ -84,7 +91,8 @@ some-of : {A : Type 0} (o : Option A) → There o → (a : A) × (o ≡ Some a)
 some-of None t = elim t [ ]
 some-of (Some a) t = (a, refl)
 
-body-of : (o : Option Definition) → ((D : Definition) → o ≡ Some D → Usable Part.run D.mult → There D.body) → Usable Part.run (definition_of o).mult →
+body-of : (o : Option Definition) → ((D : Definition) → o ≡ Some D → Usable Part.run D.mult → There D.body) →
+    Usable Part.run (definition_of o).mult →
     (b : Term) × ((definition_of o).body ≡ Some b)
 body-of None whole m = elim m [ ]
 body-of (Some D) whole m = some-of D.body (whole D refl m)

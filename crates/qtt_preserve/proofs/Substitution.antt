@@ -19,7 +19,8 @@ use Rattle.qtt_preserve.proofs.Travel.{always, has_as, usable-under, lower, rais
 abbrev pub Renames : Ctx → Ctx → (ℕ → Term) → (ℕ → Use) → Type 0
 Renames Γ Δ σ M =
     (i : ℕ) → InScope Γ i →
-    (j : ℕ) × InScope Δ j × (σ i ≡ var j) × (mult_at Γ i ≡ mult_at Δ j) × (sub σ (type_at Γ i) ≡ type_at Δ j) × (M i ≡ unit (Key.v j))
+    (j : ℕ) × InScope Δ j × (σ i ≡ var j) × (mult_at Γ i ≡ mult_at Δ j) × (sub σ (type_at Γ i) ≡ type_at Δ j) ×
+    (M i ≡ unit (Key.v j))
 
 wk-unit : (j : ℕ) → wk_use (unit (Key.v j)) ≡ unit (Key.v (suc j))
 wk-unit j = fun_ext λ x. go x
@@ -37,7 +38,8 @@ renames-lift Γ Δ σ M q A g (suc i) s =
     (suc r.0, r.1, ap (ren suc) r.2, r.3, lift-ren σ (type_at Γ i) ∙ ap (ren suc) r.4, ap wk_use r.5 ∙ wk-unit r.0)
 
 module _ (E : Env) (bodies : BodiesClosed E) where
-  pub has_var : (p : Part) (Γ : Ctx) (i : ℕ) → InScope Γ i → Usable p (mult_at Γ i) → Has E p Γ (var i) (type_at Γ i) (unit (Key.v i))
+  pub has_var : (p : Part) (Γ : Ctx) (i : ℕ) → InScope Γ i → Usable p (mult_at Γ i) →
+      Has E p Γ (var i) (type_at Γ i) (unit (Key.v i))
   has_var p Γ i s m = Has.at_var s m Conv.same (always p λ x d. ≼-refl (unit (Key.v i) x))
 
   renames-look : (p : Part) (Γ Δ : Ctx) (σ : ℕ → Term) (M : ℕ → Use) → Renames Γ Δ σ M → (i : ℕ) → InScope Γ i →
@@ -52,12 +54,14 @@ module _ (E : Env) (bodies : BodiesClosed E) where
   weaken {p} {Γ} {t} {A} {u} b h =
       rw (ren-is-sub suc t, ren-is-sub suc A)
       (has_as E (sub (λ i. var (suc i)) A) (wk_use u)
-      (travel E bodies (λ p. Renames) (λ p q Γ Δ σ M g. g) (λ p. renames-lift) renames-look h (b ∷ Γ) (λ i. var (suc i)) (λ i. unit (Key.v (suc i)))
+      (travel E bodies (λ p. Renames) (λ p q Γ Δ σ M g. g) (λ p. renames-lift) renames-look h (b ∷ Γ)
+      (λ i. var (suc i)) (λ i. unit (Key.v (suc i)))
       (λ i s. (suc i, s, refl, refl, sym (ren-is-sub suc (type_at Γ i)), refl)))
       Conv.same
       (always p (through-above Γ (λ i. unit (Key.v i)) b u)))
 
-  -- a substitution by terms of a context's types, each under its variable's multiplicity, and with the row of its uses
+  -- a substitution by terms of a context's types, each under its variable's multiplicity, and with the row of its
+  -- uses
   abbrev pub Fills : Part → Ctx → Ctx → (ℕ → Term) → (ℕ → Use) → Type 0
   Fills p Γ Δ σ M = (i : ℕ) → InScope Γ i → Has E (under p (mult_at Γ i)) Δ (σ i) (sub σ (type_at Γ i)) (M i)
 
@@ -69,4 +73,5 @@ module _ (E : Env) (bodies : BodiesClosed E) where
   pub substitution : {p : Part} {Γ : Ctx} {t A : Term} {u : Use} → Has E p Γ t A u →
       (Δ : Ctx) (σ : ℕ → Term) (M : ℕ → Use) → Fills p Γ Δ σ M → Has E p Δ (sub σ t) (sub σ A) (through Γ M u)
   substitution h =
-      travel E bodies Fills (λ p q Γ Δ σ M g i s. lower p q (mult_at Γ i) (g i s)) fills-lift (λ p Γ Δ σ M g i s m. raise p (mult_at Γ i) m (g i s)) h
+      travel E bodies Fills (λ p q Γ Δ σ M g i s. lower p q (mult_at Γ i) (g i s)) fills-lift
+      (λ p Γ Δ σ M g i s m. raise p (mult_at Γ i) m (g i s)) h

@@ -55,14 +55,17 @@ dot-⊙ (c ∷ Γ) q a b =
 dot-join : (Γ : Ctx) (a a' b : ℕ → Mult) → join (dot Γ a b) (dot Γ a' b) ≼ dot Γ (λ i. join (a i) (a' i)) b
 dot-join [] a a' b = tt
 dot-join (c ∷ Γ) a a' b =
-    ≼-trans _ (join (a 0) (a' 0) ⊙ b 0 ⊕ join (dot Γ (λ i. a (suc i)) (λ i. b (suc i))) (dot Γ (λ i. a' (suc i)) (λ i. b (suc i)))) _
+    ≼-trans _ (join (a 0) (a' 0) ⊙ b 0 ⊕ join (dot Γ (λ i. a (suc i)) (λ i. b (suc i)))
+    (dot Γ (λ i. a' (suc i)) (λ i. b (suc i)))) _
     (join-law' _ _ (a 0) (a' 0) (b 0))
-    (⊕-mono (join (a 0) (a' 0) ⊙ b 0) _ _ _ (≼-refl (join (a 0) (a' 0) ⊙ b 0)) (dot-join Γ (λ i. a (suc i)) (λ i. a' (suc i)) (λ i. b (suc i))))
+    (⊕-mono (join (a 0) (a' 0) ⊙ b 0) _ _ _ (≼-refl (join (a 0) (a' 0) ⊙ b 0))
+    (dot-join Γ (λ i. a (suc i)) (λ i. a' (suc i)) (λ i. b (suc i))))
 
 dot-mono : (Γ : Ctx) (a a' b : ℕ → Mult) → ((i : ℕ) → InScope Γ i → a i ≼ a' i) → dot Γ a b ≼ dot Γ a' b
 dot-mono [] a a' b h = tt
 dot-mono (c ∷ Γ) a a' b h =
-    ⊕-mono (a 0 ⊙ b 0) _ _ _ (⊙-mono (a 0) (a' 0) (b 0) (h 0 tt)) (dot-mono Γ (λ i. a (suc i)) (λ i. a' (suc i)) (λ i. b (suc i)) (λ i. h (suc i)))
+    ⊕-mono (a 0 ⊙ b 0) _ _ _ (⊙-mono (a 0) (a' 0) (b 0) (h 0 tt))
+    (dot-mono Γ (λ i. a (suc i)) (λ i. a' (suc i)) (λ i. b (suc i)) (λ i. h (suc i)))
 
 dot-no-row : (Γ : Ctx) (b : ℕ → Mult) → dot Γ (λ i. 𝟘) b ≡ 𝟘
 dot-no-row [] b = refl
@@ -101,20 +104,26 @@ tapes-mono Γ u w k (Key.h i) = k (Key.h i) tt
 
 module _ (Γ : Ctx) (M : ℕ → Use) where
   pub through-⊕ : (u w : Use) → through Γ M (λ y. u y ⊕ w y) ≡ (λ x. through Γ M u x ⊕ through Γ M w x)
-  through-⊕ u w = fun_ext λ x. rw (tapes-⊕ u w x, dot-⊕ Γ (λ i. u (Key.v i)) (λ i. w (Key.v i)) (λ i. M i x)) (⊕-swap (tapes_of u x) _ _ _)
+  through-⊕ u w = fun_ext λ x. rw (tapes-⊕ u w x, dot-⊕ Γ (λ i. u (Key.v i)) (λ i. w (Key.v i)) (λ i. M i x))
+      (⊕-swap (tapes_of u x) _ _ _)
 
   pub through-⊙ : (q : Mult) (u : Use) → through Γ M (λ y. q ⊙ u y) ≡ (λ x. q ⊙ through Γ M u x)
-  through-⊙ q u = fun_ext λ x. rw (tapes-⊙ q u x, dot-⊙ Γ q (λ i. u (Key.v i)) (λ i. M i x)) (sym (⊙-⊕ q (tapes_of u x) _))
+  through-⊙ q u = fun_ext λ x. rw (tapes-⊙ q u x, dot-⊙ Γ q (λ i. u (Key.v i)) (λ i. M i x))
+      (sym (⊙-⊕ q (tapes_of u x) _))
 
-  pub through-join : (u w : Use) → (λ x. join (through Γ M u x) (through Γ M w x)) ≼ᵤ through Γ M (λ y. join (u y) (w y))
+  pub through-join : (u w : Use) →
+      (λ x. join (through Γ M u x) (through Γ M w x)) ≼ᵤ through Γ M (λ y. join (u y) (w y))
   through-join u w x =
-      ≼-trans _ (join (tapes_of u x) (tapes_of w x) ⊕ join (dot Γ (λ i. u (Key.v i)) (λ i. M i x)) (dot Γ (λ i. w (Key.v i)) (λ i. M i x))) _
+      ≼-trans _ (join (tapes_of u x) (tapes_of w x) ⊕ join (dot Γ (λ i. u (Key.v i)) (λ i. M i x))
+      (dot Γ (λ i. w (Key.v i)) (λ i. M i x))) _
       (join-sum (tapes_of u x) _ _ _)
-      (⊕-mono _ (tapes_of (λ y. join (u y) (w y)) x) _ _ (tapes-join u w x) (dot-join Γ (λ i. u (Key.v i)) (λ i. w (Key.v i)) (λ i. M i x)))
+      (⊕-mono _ (tapes_of (λ y. join (u y) (w y)) x) _ _ (tapes-join u w x)
+      (dot-join Γ (λ i. u (Key.v i)) (λ i. w (Key.v i)) (λ i. M i x)))
 
   pub through-mono : (u w : Use) → AtMost Γ u w → through Γ M u ≼ᵤ through Γ M w
   through-mono u w k x =
-      ⊕-mono (tapes_of u x) (tapes_of w x) _ _ (tapes-mono Γ u w k x) (dot-mono Γ (λ i. u (Key.v i)) (λ i. w (Key.v i)) (λ i. M i x) (λ i. k (Key.v i)))
+      ⊕-mono (tapes_of u x) (tapes_of w x) _ _ (tapes-mono Γ u w k x)
+      (dot-mono Γ (λ i. u (Key.v i)) (λ i. w (Key.v i)) (λ i. M i x) (λ i. k (Key.v i)))
 
   pub through-zero : through Γ M zero_use ≡ zero_use
   through-zero = fun_ext λ x. go x
@@ -163,7 +172,8 @@ abbrev pub one_row : Use → ℕ → Use
 one_row y zero = y
 one_row y (suc i) = unit (Key.v i)
 
-pub through-one : (Γ : Ctx) (b : Mult × Term) (w y : Use) → AtMost Γ (through (b ∷ Γ) (one_row y) w) (λ x. out w x ⊕ w (Key.v 0) ⊙ y x)
+pub through-one : (Γ : Ctx) (b : Mult × Term) (w y : Use) →
+    AtMost Γ (through (b ∷ Γ) (one_row y) w) (λ x. out w x ⊕ w (Key.v 0) ⊙ y x)
 through-one Γ b w y (Key.v j) s =
     ≼-of (rw (dot-pick Γ (λ i. w (Key.v (suc i))) j s) (⊕-comm (w (Key.v 0) ⊙ y (Key.v j)) (w (Key.v (suc j)))))
 through-one Γ b w y (Key.h j) s =
@@ -190,7 +200,8 @@ through-fit Γ σ M (b ∷ Θ) u f = (
 module _ (Γ : Ctx) (σ : ℕ → Term) (M : ℕ → Use) where
   share-sub : (j : Judged) → share (sub_judged Γ σ M j) ≡ through Γ M (share j)
   share-sub j =
-      ap (λ n x. j.mult ⊙ outs n (through (ext Γ j.binds) (lifts_uses (length j.binds) M) j.uses) x) (length-sub_binds σ j.binds)
+      ap (λ n x. j.mult ⊙ outs n (through (ext Γ j.binds) (lifts_uses (length j.binds) M) j.uses) x)
+      (length-sub_binds σ j.binds)
       ∙ ap (λ u x. j.mult ⊙ u x) (through-outs Γ M j.binds j.uses)
       ∙ sym (through-⊙ Γ M j.mult (outs (length j.binds) j.uses))
 
@@ -208,7 +219,8 @@ module _ (Γ : Ctx) (σ : ℕ → Term) (M : ℕ → Use) where
   branch-sub (j ∷ js) = ap (cond j.branch true) (branch-sub js)
 
   join_step : (b c : Bool) (u w u' w' : Use) → u' ≡ through Γ M u → w' ≼ᵤ through Γ M w →
-      (λ x. cond b (cond c (join (u' x) (w' x)) (u' x)) (w' x)) ≼ᵤ through Γ M (λ x. cond b (cond c (join (u x) (w x)) (u x)) (w x))
+      (λ x. cond b (cond c (join (u' x) (w' x)) (u' x)) (w' x)) ≼ᵤ through Γ M
+      (λ x. cond b (cond c (join (u x) (w x)) (u x)) (w x))
   join_step false c u w u' w' d k x = k x
   join_step true false u w u' w' d k x = ≼-of (ap (λ f. f x) d)
   join_step true true u w u' w' d k x =
@@ -225,5 +237,8 @@ module _ (Γ : Ctx) (σ : ℕ → Term) (M : ℕ → Use) where
   total-sub js own own' k x =
       ≼-trans _ (through Γ M own x ⊕ (through Γ M (sum_of js) x ⊕ through Γ M (join_of js) x)) _
       (⊕-mono (own' x) (through Γ M own x) _ _ (k x)
-      (⊕-mono (sum_of (map (sub_judged Γ σ M) js) x) (through Γ M (sum_of js) x) _ _ (≼-of (ap (λ f. f x) (sum-sub js))) (join-sub js x)))
-      (≼-of (ap (λ f. f x) (sym (through-⊕ Γ M own (λ y. sum_of js y ⊕ join_of js y) ∙ ap (λ f y. through Γ M own y ⊕ f y) (through-⊕ Γ M (sum_of js) (join_of js))))))
+      (⊕-mono (sum_of (map (sub_judged Γ σ M) js) x) (through Γ M (sum_of js) x) _ _
+      (≼-of (ap (λ f. f x) (sum-sub js))) (join-sub js x)))
+      (≼-of (ap (λ f. f x) (sym
+      (through-⊕ Γ M own (λ y. sum_of js y ⊕ join_of js y) ∙ ap (λ f y. through Γ M own y ⊕ f y)
+      (through-⊕ Γ M (sum_of js) (join_of js))))))

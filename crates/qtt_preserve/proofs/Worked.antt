@@ -75,8 +75,17 @@ same-family b f = sym (ap (λ o. or o (prim_family f)) (cond-same (eqb f.module.
 
 grows : (b : Term) → Grows prim_env (one b)
 grows b = record {
-  families = λ f F e.
-      (F, sym (same-family b f) ∙ e, record { params = refl; indices = refl; level = refl; added = []; constructors = append-nil F.constructors });
+  families = λ f F e. (
+    F,
+    sym (same-family b f) ∙ e,
+    record {
+      params = refl;
+      indices = refl;
+      level = refl;
+      added = [];
+      constructors = append-nil F.constructors;
+    },
+  );
   definitions = λ d A e. absurd (none≢some e);
 }
 
@@ -88,10 +97,15 @@ one-definition b d D e =
 unit_typed : (b : Term) (Γ : Ctx) → Typed (one b) Part.erased Γ UnitTy (Sort 0) zero_use
 unit_typed b Γ = Typed.by_rule (Rule.fam tt (ParamsThenArgs.done Args.none)) TypedAll.none (λ x s. refl)
 
-definition_formed : (b : Term) → Typed (one b) Part.run [] b io_unit zero_use → tape_free b ≡ true → DefinitionFormed (one b) (many io_unit b)
+definition_formed : (b : Term) → Typed (one b) Part.run [] b io_unit zero_use → tape_free b ≡ true →
+    DefinitionFormed (one b) (many io_unit b)
 definition_formed b h f = record {
   mult = λ e. cc e;
-  is_type = (0, Typed.by_rule (Rule.named tt tt (Args.more {u = zero_use} Args.none)) (TypedAll.more refl (unit_typed b []) tt TypedAll.none) (λ x s. refl));
+  is_type = (
+    0,
+    Typed.by_rule (Rule.named tt tt (Args.more {u = zero_use} Args.none))
+        (TypedAll.more refl (unit_typed b []) tt TypedAll.none) (λ x s. refl),
+  );
   type_no_tape = no_tape io_unit refl;
   closed = λ c e. subst Closed (some-injective e) (typed-below h);
   typed = λ c e. subst (λ c. Typed (one b) Part.run [] c io_unit zero_use) (some-injective e) h;
@@ -105,7 +119,8 @@ is_program b h f =
     record {
       formed = record {
         prims = record { units = refl; truths = refl; lines = refl; equalities = refl };
-        families = λ g F e. family-formed-grows (grows b) (λ f t. same-family b f) (prim_formed.families g F (same-family b g ∙ e));
+        families = λ g F e. family-formed-grows (grows b) (λ f t. same-family b f)
+            (prim_formed.families g F (same-family b g ∙ e));
         definitions = λ g D e. subst (DefinitionFormed (one b)) (one-definition b g D e) d;
       };
       complete = λ g D e m. subst (λ D. There D.body) (one-definition b g D e) tt;
@@ -120,7 +135,8 @@ no_tape_used u h (Key.h k) s = h k
 abbrev two_writes : Term
 two_writes =
     with_handle opened_a
-    (with_handle (written (var 0) (TextLit (codes "x"))) (with_handle (written (var 0) (TextLit (codes "y"))) (closed_after (var 0))))
+    (with_handle (written (var 0) (TextLit (codes "x")))
+    (with_handle (written (var 0) (TextLit (codes "y"))) (closed_after (var 0))))
 
 abbrev write_of_quotient : Term
 write_of_quotient = with_handle opened_a (with_handle (written (var 0) (shown one_by_zero)) (closed_after (var 0)))
@@ -129,30 +145,40 @@ module _ (E : Env) (units : (Γ : Ctx) → Has E Part.erased Γ UnitTy (Sort 0) 
   handle_var : (Γ : Ctx) → Has E Part.run ((𝟙, HandleTy) ∷ Γ) (var 0) HandleTy (unit (Key.v 0))
   handle_var Γ = Has.at_var tt tt Conv.same (λ x s. ≼-refl (unit (Key.v 0) x))
 
-  bind_has : (Γ : Ctx) (t k : Term) (u w : Use) → Has E Part.run Γ t (IoTy Io.io1 HandleTy) u → Has E Part.run ((𝟙, HandleTy) ∷ Γ) k io_unit w → w (Key.v 0) ≼ 𝟙 →
+  bind_has : (Γ : Ctx) (t k : Term) (u w : Use) → Has E Part.run Γ t (IoTy Io.io1 HandleTy) u →
+      Has E Part.run ((𝟙, HandleTy) ∷ Γ) k io_unit w → w (Key.v 0) ≼ 𝟙 →
       Has E Part.run Γ (with_handle t k) io_unit (λ x. u x ⊕ out w x)
   bind_has Γ t k u w ht hk f =
-      Has.at_node (Rule.named tt tt (Args.more {u = zero_use} (Args.more {u = zero_use} (Args.more {u = u} (Args.more {u = out w} Args.none)))))
-      (HasAll.more refl (handle_has Γ) tt (HasAll.more refl (units Γ) tt (HasAll.more refl ht tt (HasAll.more refl lambda tt HasAll.none))))
+      Has.at_node (Rule.named refl tt
+      (Args.more {u = zero_use}
+      (Args.more {u = zero_use} (Args.more {u = u} (Args.more {u = out w} Args.none)))))
+      (HasAll.more refl (handle_has Γ) tt
+      (HasAll.more refl (units Γ) tt (HasAll.more refl ht tt (HasAll.more refl lambda tt HasAll.none))))
       Conv.same (λ x s. ≼-of (⊕-zero _ ∙ ap (λ n. u x ⊕ n) (⊕-zero (out w x))))
     where
       lambda : Has E Part.run Γ (Lam 𝟙 HandleTy k) (Pi 𝟙 HandleTy io_unit) (out w)
       lambda =
-          Has.at_node (Rule.lam {u = zero_use} {w = w}) (HasAll.more refl (handle_has Γ) tt (HasAll.more refl hk (f, tt) HasAll.none)) Conv.same
+          Has.at_node (Rule.lam {u = zero_use} {w = w})
+          (HasAll.more refl (handle_has Γ) tt (HasAll.more refl hk (f, tt) HasAll.none)) Conv.same
           (λ x s. ≼-of (⊕-zero _ ∙ ⊕-zero (out w x)))
 
   opens_has : Has E Part.run [] opened_a (IoTy Io.io1 HandleTy) zero_use
   opens_has =
-      Has.at_node (Rule.named tt tt (Args.more {u = zero_use} Args.none)) (HasAll.more refl (literal_has Part.run [] (literal.Text (codes "a"))) tt HasAll.none) Conv.same (λ x s. tt)
+      Has.at_node (Rule.named refl tt (Args.more {u = zero_use} Args.none))
+      (HasAll.more refl (literal_has Part.run [] (literal.Text (codes "a"))) tt HasAll.none) Conv.same
+      (λ x s. tt)
 
-  writes_has : (Γ : Ctx) (s : Term) → Has E Part.run ((𝟙, HandleTy) ∷ Γ) s StringTy zero_use → Has E Part.run ((𝟙, HandleTy) ∷ Γ) (written (var 0) s) (IoTy Io.io1 HandleTy) (unit (Key.v 0))
+  writes_has : (Γ : Ctx) (s : Term) → Has E Part.run ((𝟙, HandleTy) ∷ Γ) s StringTy zero_use →
+      Has E Part.run ((𝟙, HandleTy) ∷ Γ) (written (var 0) s) (IoTy Io.io1 HandleTy) (unit (Key.v 0))
   writes_has Γ s h =
-      Has.at_node (Rule.named tt tt (Args.more {u = unit (Key.v 0)} (Args.more {u = zero_use} Args.none)))
-      (HasAll.more refl (handle_var Γ) tt (HasAll.more refl h tt HasAll.none)) Conv.same (λ x s. ≼-of (⊕-zero _ ∙ ⊕-zero (unit (Key.v 0) x)))
+      Has.at_node (Rule.named refl tt (Args.more {u = unit (Key.v 0)} (Args.more {u = zero_use} Args.none)))
+      (HasAll.more refl (handle_var Γ) tt (HasAll.more refl h tt HasAll.none)) Conv.same
+      (λ x s. ≼-of (⊕-zero _ ∙ ⊕-zero (unit (Key.v 0) x)))
 
   closes_has : (Γ : Ctx) → Has E Part.run ((𝟙, HandleTy) ∷ Γ) (closed_after (var 0)) io_unit (unit (Key.v 0))
   closes_has Γ =
-      Has.at_node (Rule.named tt tt (Args.more {u = unit (Key.v 0)} Args.none)) (HasAll.more refl (handle_var Γ) tt HasAll.none) Conv.same
+      Has.at_node (Rule.named refl tt (Args.more {u = unit (Key.v 0)} Args.none))
+      (HasAll.more refl (handle_var Γ) tt HasAll.none) Conv.same
       (λ x s. ≼-of (⊕-zero _ ∙ ⊕-zero (unit (Key.v 0) x)))
 
   quotient_has : (Γ : Ctx) → Has E Part.run Γ (shown one_by_zero) StringTy zero_use
@@ -160,15 +186,19 @@ module _ (E : Env) (units : (Γ : Ctx) → Has E Part.erased Γ UnitTy (Sort 0) 
       Has.at_node (Rule.named tt tt (Args.more {u = zero_use} Args.none))
       (HasAll.more refl
       (Has.at_node (Rule.named tt tt (Args.more {u = zero_use} (Args.more {u = zero_use} Args.none)))
-      (HasAll.more refl (literal_has Part.run Γ (literal.Int (pos 1))) tt (HasAll.more refl (literal_has Part.run Γ (literal.Int (pos 0))) tt HasAll.none)) Conv.same (λ x s. tt)) tt HasAll.none)
+      (HasAll.more refl (literal_has Part.run Γ (literal.Int (pos 1))) tt
+      (HasAll.more refl (literal_has Part.run Γ (literal.Int (pos 0))) tt HasAll.none)) Conv.same (λ x s. tt))
+      tt HasAll.none)
       Conv.same (λ x s. tt)
 
   two_writes_has : Has E Part.run [] two_writes io_unit zero_use
   two_writes_has =
       has_as E io_unit zero_use
       (bind_has [] opened_a _ zero_use _ opens_has
-      (bind_has ((𝟙, HandleTy) ∷ []) _ _ (unit (Key.v 0)) _ (writes_has [] _ (literal_has Part.run _ (literal.Text (codes "x"))))
-      (bind_has ((𝟙, HandleTy) ∷ (𝟙, HandleTy) ∷ []) _ _ (unit (Key.v 0)) (unit (Key.v 0)) (writes_has ((𝟙, HandleTy) ∷ []) _ (literal_has Part.run _ (literal.Text (codes "y"))))
+      (bind_has ((𝟙, HandleTy) ∷ []) _ _ (unit (Key.v 0)) _
+      (writes_has [] _ (literal_has Part.run _ (literal.Text (codes "x"))))
+      (bind_has ((𝟙, HandleTy) ∷ (𝟙, HandleTy) ∷ []) _ _ (unit (Key.v 0)) (unit (Key.v 0))
+      (writes_has ((𝟙, HandleTy) ∷ []) _ (literal_has Part.run _ (literal.Text (codes "y"))))
       (closes_has ((𝟙, HandleTy) ∷ (𝟙, HandleTy) ∷ [])) tt) tt) tt)
       Conv.same (no_tape_used _ (λ k. tt))
 
@@ -176,11 +206,14 @@ module _ (E : Env) (units : (Γ : Ctx) → Has E Part.erased Γ UnitTy (Sort 0) 
   write_of_quotient_has =
       has_as E io_unit zero_use
       (bind_has [] opened_a _ zero_use _ opens_has
-      (bind_has ((𝟙, HandleTy) ∷ []) _ _ (unit (Key.v 0)) (unit (Key.v 0)) (writes_has [] _ (quotient_has _)) (closes_has ((𝟙, HandleTy) ∷ [])) tt) tt)
+      (bind_has ((𝟙, HandleTy) ∷ []) _ _ (unit (Key.v 0)) (unit (Key.v 0)) (writes_has [] _ (quotient_has _))
+      (closes_has ((𝟙, HandleTy) ∷ [])) tt) tt)
       Conv.same (no_tape_used _ (λ k. tt))
 
 pub handles_is_program : IsProgram handles
-handles_is_program = is_program two_writes (two_writes_has (one two_writes) (λ Γ. typed-has (unit_typed two_writes Γ))) refl
+handles_is_program = is_program two_writes
+    (two_writes_has (one two_writes) (λ Γ. typed-has (unit_typed two_writes Γ))) refl
 
 pub trapping_is_program : IsProgram trapping
-trapping_is_program = is_program write_of_quotient (write_of_quotient_has (one write_of_quotient) (λ Γ. typed-has (unit_typed write_of_quotient Γ))) refl
+trapping_is_program = is_program write_of_quotient
+    (write_of_quotient_has (one write_of_quotient) (λ Γ. typed-has (unit_typed write_of_quotient Γ))) refl

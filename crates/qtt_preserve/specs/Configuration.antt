@@ -17,14 +17,16 @@ open_use [] h = 𝟘
 open_use (t ∷ ts) zero = cond t.is_open 𝟙 𝟘
 open_use (t ∷ ts) (suc h) = open_use ts h
 
--- continuations that wait for a result of type A, after IO or IO1, and the sum of their uses; the last of them gives an IO R
+-- continuations that wait for a result of type A, after IO or IO1, and the sum of their uses; the last of them
+-- gives an IO R
 pub data Waits (E : Env) (R : Term) : Io → Term → List Term → Use → Type 0 where
   none : {A : Term} → Conv E A R → Waits E R Io.io A [] zero_use
   more : {m n : Io} {A B k : Term} {ks : List Term} {u w : Use} →
-      Typed E Part.run [] k (Pi (mult_of m) A (IoTy n (ren suc B))) w → Waits E R n B ks u → Waits E R m A (k ∷ ks) (λ x. w x ⊕ u x)
+      Typed E Part.run [] k (Pi (mult_of m) A (IoTy n (ren suc B))) w → Waits E R n B ks u →
+      Waits E R m A (k ∷ ks) (λ x. w x ⊕ u x)
 
--- the term is an action, the continuations wait for its result and end in an IO R, and the uses of both together are 1 for each
--- open tape and 0 for every other
+-- the term is an action, the continuations wait for its result and end in an IO R, and the uses of both together
+-- are 1 for each open tape and 0 for every other
 pub record Configured (E : Env) (R : Term) (c : Config) : Type 0 where
   pub io : Io
   pub type : Term

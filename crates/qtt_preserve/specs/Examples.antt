@@ -16,10 +16,12 @@ dropping = with_handle opened_a pure_unit
 abbrev pub closing_twice : Term
 closing_twice = with_handle opened_a (then_do (closed_after (var 0)) (closed_after (var 1)))
 
--- what closes a tape uses this tape once and no other; a program that drops its handle has no type, and neither has one that closes it twice
+-- what closes a tape uses this tape once and no other; a program that drops its handle has no type, and neither
+-- has one that closes it twice
 pub record HandlesAreLinear (E : Env) : Type 0 where
   pub open_tape : (h : ℕ) → Typed E Part.run [] (closed_after (Tape h)) io_unit (unit (Key.h h))
-  pub used_once : (h : ℕ) (C : Term) (u : Use) → Typed E Part.run [] (closed_after (Tape h)) C u → (k : ℕ) → u (Key.h k) ≡ unit (Key.h h) (Key.h k)
+  pub used_once : (h : ℕ) (C : Term) (u : Use) → Typed E Part.run [] (closed_after (Tape h)) C u →
+      (k : ℕ) → u (Key.h k) ≡ unit (Key.h h) (Key.h k)
   pub dropped : (C : Term) (u : Use) → Typed E Part.run [] dropping C u → ⊥
   pub closed_twice : (C : Term) (u : Use) → Typed E Part.run [] closing_twice C u → ⊥
 

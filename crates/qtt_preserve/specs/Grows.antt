@@ -17,8 +17,10 @@ pub record DefinitionGrows (A B : Definition) : Type 0 where
   pub body : (b : Term) → A.body ≡ Some b → B.body ≡ Some b
 
 pub record Grows (D E : Env) : Type 0 where
-  pub families : (f : GlobalId) (F : Family) → D.family f ≡ Some F → (G : Family) × (E.family f ≡ Some G) × FamilyGrows F G
-  pub definitions : (d : GlobalId) (A : Definition) → D.definition d ≡ Some A → (B : Definition) × (E.definition d ≡ Some B) × DefinitionGrows A B
+  pub families : (f : GlobalId) (F : Family) → D.family f ≡ Some F →
+      (G : Family) × (E.family f ≡ Some G) × FamilyGrows F G
+  pub definitions : (d : GlobalId) (A : Definition) → D.definition d ≡ Some A →
+      (B : Definition) × (E.definition d ≡ Some B) × DefinitionGrows A B
 
 -- no constructors are added
 abbrev pub FamiliesStay : Env → Env → Type 0

@@ -1,5 +1,5 @@
--- The judgement with a bound on the use: a term has a type, and its use is at most this one. It is what proofs go over, since
--- a greater use may always be given, and conversion is part of each rule.
+-- The judgement with a bound on the use: a term has a type, and its use is at most this one. It is what proofs go
+-- over, since a greater use may always be given, and conversion is part of each rule.
 use Rattle.std.specs.Prelude.{◌≡◌, ℕ, List, [], ◌∷◌, length}
 use Rattle.qtt_usage.specs.Uses.{Key, Use, unit}
 use Rattle.qtt_term.specs.Term.{Form, binders, first, rest, Term, Terms, var, node, ε, ◌▸◌}
@@ -10,9 +10,12 @@ use Rattle.qtt_term.specs.Judgement.{Ctx, InScope, mult_at, type_at, ext, Part, 
 mutual
   pub data Has (E : Env) : Part → Ctx → Term → Term → Use → Type 0 where
     at_var : {p : Part} {Γ : Ctx} {i : ℕ} {C : Term} {u : Use} →
-        InScope Γ i → Usable p (mult_at Γ i) → Conv E (type_at Γ i) C → InRun p (AtMost Γ (unit (Key.v i)) u) → Has E p Γ (var i) C u
-    at_node : {p : Part} {Γ : Ctx} {F : Form} {ts : Terms} {C : Term} {u : Use} {js : List Judged} {R : Term} {own : Use} →
-        Rule E p F ts js R own → HasAll E p Γ (binders F) ts js → Conv E R C → InRun p (AtMost Γ (total own js) u) → Has E p Γ (node F ts) C u
+        InScope Γ i → Usable p (mult_at Γ i) → Conv E (type_at Γ i) C → InRun p (AtMost Γ (unit (Key.v i)) u) →
+        Has E p Γ (var i) C u
+    at_node : {p : Part} {Γ : Ctx} {F : Form} {ts : Terms} {C : Term} {u : Use} {js : List Judged} {R : Term}
+        {own : Use} →
+        Rule E p F ts js R own → HasAll E p Γ (binders F) ts js → Conv E R C →
+        InRun p (AtMost Γ (total own js) u) → Has E p Γ (node F ts) C u
 
   pub data HasAll (E : Env) : Part → Ctx → List ℕ → Terms → List Judged → Type 0 where
     none : {p : Part} {Γ : Ctx} {ns : List ℕ} → HasAll E p Γ ns ε []

@@ -15,7 +15,8 @@ ghost use Rattle.qtt_preserve.specs.Examples.{HandlesAreLinear, IsProgram};
 ghost use Rattle.qtt_preserve.specs.Laws.{UsesAreExact, SubstitutionWithUses, StepKeepsTypeAndUse, StepsAreNeverStuck, RunKeepsTapes, NeverStuck, TapesClosedOnce, DerivationsGrow, DeadTermsUseAnything};
 ghost use Rattle.qtt_preserve.specs.Grows.{Grows};
 
-/// A term has a type with at most a use exactly where it has it with an exact use within that one.
+/// A term has a type with at most a use exactly where it has it with an exact use within that
+/// one.
 pub fn uses_are_exact()
     ensures { (E : Env) (p : Part) (Γ : Ctx) (t A : Term) (u : Use) → UsesAreExact E p Γ t A u }
 {}
@@ -25,10 +26,11 @@ pub fn inversion()
     ensures { (E : Env) (p : Part) (Γ : Ctx) → Inversion E p Γ }
 {}
 
-/// The free variables of a typed term are those of its context; in a well-formed environment no variable is free in a body, as the laws
-/// of conversion ask.
+/// The free variables of a typed term are those of its context; in a well-formed environment no
+/// variable is free in a body, as the laws of conversion ask.
 pub fn typed_terms_are_in_scope()
-    ensures scope { (E : Env) (p : Part) (Γ : Ctx) (t A : Term) (u : Use) → Typed E p Γ t A u → Below (length Γ) t }
+    ensures scope { (E : Env) (p : Part) (Γ : Ctx) (t A : Term) (u : Use) → Typed E p Γ t A u →
+        Below (length Γ) t }
     ensures bodies { (E : Env) → WellFormed E → BodiesClosed E }
 {}
 
@@ -49,7 +51,7 @@ pub fn steps_are_never_stuck()
 
 /// Each contraction of a run keeps the types, and each open tape used exactly once.
 pub fn run_keeps_tapes()
-    ensures { (E : Env) → WellFormed E → Complete E → RunKeepsTapes E }
+    ensures { (E : Env) → WellFormed E → RunKeepsTapes E }
 {}
 
 /// Progress of full runs.
@@ -57,9 +59,11 @@ pub fn never_stuck()
     ensures { (E : Env) → WellFormed E → Complete E → NeverStuck E }
 {}
 
-/// Each tape that a run opens is written and closed only while it is open, and is closed exactly once.
+/// Each tape that a run opens is written and closed only while it is open, and is closed exactly
+/// once.
 pub fn tapes_closed_once()
-    ensures { (E : Env) → WellFormed E → Complete E → (main : GlobalId) → IsMain E main → (n : ℕ) (input : List ℕ) → TapesClosedOnce E main n input }
+    ensures { (E : Env) → WellFormed E → Complete E → (main : GlobalId) → IsMain E main →
+        (n : ℕ) (input : List ℕ) → TapesClosedOnce E main n input }
 {}
 
 /// Adding to an environment keeps derivations, and what is well formed.
@@ -72,13 +76,14 @@ pub fn dead_terms_use_anything()
     ensures { (E : Env) → DeadTermsUseAnything E }
 {}
 
-/// What closes an open tape uses it exactly once; a program that drops its handle has no type, and neither has one that closes it twice.
+/// What closes an open tape uses it exactly once; a program that drops its handle has no type,
+/// and neither has one that closes it twice.
 pub fn handles_are_linear()
     ensures { (E : Env) → HandlesAreLinear E }
 {}
 
-/// The laws speak of something: a program that opens, writes and closes a tape, and one that traps while its tape is open, are well
-/// formed and complete.
+/// The laws speak of something: a program that opens, writes and closes a tape, and one that
+/// traps while its tape is open, are well formed and complete.
 pub fn examples_are_programs()
     ensures handles { IsProgram handles }
     ensures trapping { IsProgram trapping }

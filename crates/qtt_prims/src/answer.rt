@@ -63,8 +63,10 @@ fn of_numbers(prim: Primitive, x: i64, y: i64) -> PrimAnswer
 }
 
 fn of_texts(alloc: Global, prim: Primitive, s: &Text, t: &Text) -> Result<PrimAnswer, PrimError>
-    ensures ok { IfOk result (λ answer. answer ≡ apply prim (lit.Text s.now ∷ lit.Text t.now ∷ [])) }
-    ensures memory { OnErr result (AnswersText (apply prim (lit.Text s.now ∷ lit.Text t.now ∷ []))) }
+    ensures ok { IfOk result (λ answer. answer ≡ apply prim
+        (lit.Text s.now ∷ lit.Text t.now ∷ [])) }
+    ensures memory { OnErr result
+        (AnswersText (apply prim (lit.Text s.now ∷ lit.Text t.now ∷ []))) }
 {
     match prim {
         Primitive::AppendString => {

@@ -1,4 +1,5 @@
-//! The primitives and the actions of the module `Prim`, with the names by which they are printed.
+//! The primitives and the actions of the module `Prim`, with the names by which they are
+//! printed.
 
 ghost use Rattle.std.specs.Prelude.{◌≡◌, ◌↔◌, IsTrue};
 ghost use Rattle.qtt_prims.specs.PrimNames.{prim_name, action_name};

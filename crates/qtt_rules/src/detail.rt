@@ -5,8 +5,8 @@ use qtt_syntax::Pattern;
 use qtt_term::{Question, Term};
 use qtt_usage::mult::Mult;
 
-/// One variant for each kind of refusal, in the order of their numbers. Where terms are kept, `depth` is the number of variables of the
-/// context in which they stand.
+/// One variant for each kind of refusal, in the order of their numbers. Where terms are kept,
+/// `depth` is the number of variables of the context in which they stand.
 #[derive(Debug, Drop)]
 pub enum Detail {
     NotUtf8,

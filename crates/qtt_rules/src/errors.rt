@@ -13,7 +13,8 @@ use thiserror::Error;
 /// Why an expression is not elaborated.
 #[derive(Debug, Drop, Error)]
 pub enum ElabError {
-    /// The first premise that is false: what it keeps, its place, its rule, and its number there from 1.
+    /// The first premise that is false: what it keeps, its place, its rule, and its number there
+    /// from 1.
     #[error("a premise is false")]
     Refused(Detail, Span, Rule, u8),
     #[error("out of memory")]

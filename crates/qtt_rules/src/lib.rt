@@ -1,8 +1,13 @@
-//! Refusals: what they keep, and their kinds.
+//! Refusals: what they keep, one variant a kind, and their kinds.
+//!
+//! `kind` is the table of kinds. `specs/Refusal` says what a false premise keeps, with its
+//! place, rule and number, as the tables of elaboration, clauses and modules give it; a refusal
+//! of the code stands for such a cause and has its kind (`laws::causes_have_their_kinds`).
 #![tactic(auto)]
 
 mod detail;
 mod errors;
+pub mod laws;
 mod refusal;
 
 pub use detail::Detail;

@@ -7,8 +7,9 @@ use crate::detail::Detail;
 use qtt_base::{Name, Span};
 use qtt_term::{Globals, Rule};
 
-/// Why a module is refused: the place, and the premise that is false, by its rule and its number there from 1. `names` is the
-/// environment in which the kept terms stand, with the items of the module so far; where no term is kept it is that of the module Prim.
+/// Why a module is refused: the place, and the premise that is false, by its rule and its number
+/// there from 1. `names` is the environment in which the kept terms stand, with the items of the
+/// module so far; where no term is kept it is that of the module Prim.
 #[derive(Debug, Drop)]
 pub struct Refusal {
     pub module: Name,

@@ -19,10 +19,12 @@ use Rattle.qtt_run.proofs.Evaluating.{answers-as, call-represents, start-represe
 definition-has : {E : Env} (d : GlobalId) (D : Definition) → E.definition d ≡ Some D → Usable Part.run D.mult →
     Has E Part.run [] (Def d) (sub closed (definition_at E d).type) zero_use
 definition-has d D e used =
-    Has.at_node (Rule.named (there-some e) (subst (λ D. Usable Part.run D.mult) (sym (ap definition_of e)) used) Args.none) HasAll.none
+    Has.at_node (Rule.named (there-some e) (subst (λ D. Usable Part.run D.mult) (sym (ap definition_of e)) used)
+    Args.none) HasAll.none
     Conv.same (λ x s. tt)
 
-pub typed-code-answers : (E : Env) → WellFormed E → Complete E → (ds : List GlobalId) → Lists E ds → TypedCodeAnswers E ds
+pub typed-code-answers : (E : Env) → WellFormed E → Complete E → (ds : List GlobalId) → Lists E ds →
+    TypedCodeAnswers E ds
 typed-code-answers E w whole ds l = record {
   definition = λ d D e used. answers-as E w whole ds l (start (first_block E ds d)) (definition-has d D e used)
       (start-represents E w whole ds l d);

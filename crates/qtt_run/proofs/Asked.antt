@@ -19,7 +19,7 @@ use Rattle.qtt_run.specs.declared.running.Turn.TheVariants as turn
 use Rattle.qtt_run.specs.CodeRun.{Now, pure_unit, pure_handle}
 use Rattle.qtt_run.specs.Deed.{AsksEffect, IsPerformed}
 use Rattle.qtt_run.specs.Underway.{Origin, IsUnderway, Computes, Trapping, Finished, AfterHalt, AfterTurn, waiting_of, fuel}
-use Rattle.qtt_run.proofs.UnderWay.{At, bound-reached, gave-unstuck}
+use Rattle.qtt_run.proofs.Waiting.{At, bound-reached, gave-unstuck}
 use Rattle.qtt_run.proofs.Effects.{write-bound, close-bound}
 
 module _ {o : Origin} {i u : Option (List ℕ)} {t : Option (List Taped)} (m : Running) where
@@ -30,17 +30,20 @@ module _ {o : Origin} {i u : Option (List ℕ)} {t : Option (List Taped)} (m : R
   is-performed {v} a =
       let r = a.run in (At (Now.gave v) (waiting_of m) r.some.0 r.events r.opened, gave-unstuck r r.some.0)
 
-  pub effect-bound : (v : Value) (e : Effect) → AsksEffect v e → IsUnderway o (Now.gave v) m i u t → m.left ≡ 0 → Finished o how.Bound m.left u t
+  pub effect-bound : (v : Value) (e : Effect) → AsksEffect v e → IsUnderway o (Now.gave v) m i u t → m.left ≡ 0 →
+      Finished o how.Bound m.left u t
   effect-bound v (Bind f k) (p, q, e) a z =
       let r = (at-value e a).run in
       bound-reached r (At (Now.gave (value f)) (value k ∷ waiting_of m) r.some.0 r.events r.opened) refl z
   effect-bound v (PutLine s) e a z =
       let r = (at-value e a).run in
-      bound-reached r (At (Now.gave pure_unit) (waiting_of m) r.some.0 (r.events ++ Event.line s.now ∷ []) r.opened) refl z
+      bound-reached r (At (Now.gave pure_unit) (waiting_of m) r.some.0
+      (r.events ++ Event.line s.now ∷ []) r.opened) refl z
   effect-bound v (Open s) e a z =
       let r = (at-value e a).run in
       bound-reached r
-      (At (Now.gave (pure_handle (length r.opened))) (waiting_of m) r.some.0 (r.events ++ Event.opened s.now ∷ []) (r.opened ++ new_tape s.now ∷ [])) refl z
+      (At (Now.gave (pure_handle (length r.opened))) (waiting_of m) r.some.0 (r.events ++ Event.opened s.now ∷ [])
+      (r.opened ++ new_tape s.now ∷ [])) refl z
   effect-bound v (Write n s) e a z = let r = (at-value e a).run in write-bound r z
   effect-bound v (Close n) e a z = let r = (at-value e a).run in close-bound r z
 
@@ -52,20 +55,23 @@ has-fuel (turn.Halts h) left n = absurd (n h refl)
 
 -- ---- by the form of a turn and of a halt
 module _ {o : Origin} {i u : Option (List ℕ)} {t : Option (List Taped)} (m : Running) where
-  pub at-gives : {x : code_turn.Turn} {v : Val} → x ≡ turn.Gives v → AfterTurn o m i u t x → IsUnderway o (Now.gave (value v)) m i u t
+  pub at-gives : {x : code_turn.Turn} {v : Val} → x ≡ turn.Gives v → AfterTurn o m i u t x →
+      IsUnderway o (Now.gave (value v)) m i u t
   at-gives e a = subst (AfterTurn o m i u t) e a
 
   pub at-computes : {x : code_turn.Turn} → x ≡ turn.Computes → AfterTurn o m i u t x → Computes o m i u t
   at-computes e a = subst (AfterTurn o m i u t) e a
 
-  pub at-done : {x : Halt} {v : Val} → x ≡ halted.Done v → AfterHalt o m i u t (Ok x) → IsUnderway o (Now.gave (value v)) m i u t
+  pub at-done : {x : Halt} {v : Val} → x ≡ halted.Done v → AfterHalt o m i u t (Ok x) →
+      IsUnderway o (Now.gave (value v)) m i u t
   at-done e a = subst (λ h. AfterHalt o m i u t (Ok h)) e a
 
 module _ (o : Origin) (i u : Option (List ℕ)) (t : Option (List Taped)) (m : Running) where
   pub at-halts : {x : code_turn.Turn} {h : RunHow} → x ≡ turn.Halts h → AfterTurn o m i u t x → Finished o h m.left u t
   at-halts e a = subst (AfterTurn o m i u t) e a
 
-  pub at-trap : {x : Halt} {k : TrapKind} → x ≡ halted.Trap k → AfterHalt o m i u t (Ok x) → Trapping o (cause k) m.left m.handles u t
+  pub at-trap : {x : Halt} {k : TrapKind} → x ≡ halted.Trap k → AfterHalt o m i u t (Ok x) →
+      Trapping o (cause k) m.left m.handles u t
   at-trap e a = subst (λ h. AfterHalt o m i u t (Ok h)) e a
 
   pub at-spent : {x : Halt} → x ≡ halted.Spent → AfterHalt o m i u t (Ok x) → Finished o how.Bound m.left u t

@@ -12,7 +12,8 @@ pub pure-parts : (m : Io) (vs : List Value) → IsPerformed (acts (Action.pure m
 pure-parts m (v ∷ []) p = (v, refl)
 pure-parts m _ (c, h) = absurd (h refl)
 
-pub bind-parts : (m n : Io) (vs : List Value) → IsPerformed (acts (Action.bind m n) vs) → (v : Value) × (w : Value) × (vs ≡ v ∷ w ∷ [])
+pub bind-parts : (m n : Io) (vs : List Value) → IsPerformed (acts (Action.bind m n) vs) →
+    (v : Value) × (w : Value) × (vs ≡ v ∷ w ∷ [])
 bind-parts m n (v ∷ w ∷ []) p = (v, w, refl)
 bind-parts m n _ (c, h) = absurd (h refl)
 
@@ -20,11 +21,13 @@ pub get-parts : (vs : List Value) → IsPerformed (acts Action.get_line vs) → 
 get-parts [] p = refl
 get-parts _ (c, h) = absurd (h refl)
 
-pub put-parts : (vs : List Value) → IsPerformed (acts Action.put_line vs) → (s : List ℕ) × (vs ≡ Value.literal (literal.Text s) ∷ [])
+pub put-parts : (vs : List Value) → IsPerformed (acts Action.put_line vs) →
+    (s : List ℕ) × (vs ≡ Value.literal (literal.Text s) ∷ [])
 put-parts (Value.literal (literal.Text s) ∷ []) p = (s, refl)
 put-parts _ (c, h) = absurd (h refl)
 
-pub open-parts : (vs : List Value) → IsPerformed (acts Action.opens vs) → (s : List ℕ) × (vs ≡ Value.literal (literal.Text s) ∷ [])
+pub open-parts : (vs : List Value) → IsPerformed (acts Action.opens vs) →
+    (s : List ℕ) × (vs ≡ Value.literal (literal.Text s) ∷ [])
 open-parts (Value.literal (literal.Text s) ∷ []) p = (s, refl)
 open-parts _ (c, h) = absurd (h refl)
 

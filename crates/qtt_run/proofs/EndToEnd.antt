@@ -13,11 +13,13 @@ use Rattle.qtt_run.specs.Laws.{CodeRunsAsFullRuns, ClosesTapes}
 use Rattle.qtt_run.proofs.RunsBeside.{code-follows}
 use Rattle.qtt_run.proofs.Unique.{runs-are-one}
 
-pub code-runs-as-full-runs : (E : Env) → WellFormed E → Complete E → (ds : List GlobalId) → Lists E ds → (main : GlobalId) →
+pub code-runs-as-full-runs : (E : Env) → WellFormed E → Complete E → (ds : List GlobalId) → Lists E ds →
+    (main : GlobalId) →
     IsMain E main → CodeRunsAsFullRuns E ds main
 code-runs-as-full-runs E w whole ds l main m bound input r =
     let f = code-follows E w whole ds l main m bound input in (
-      λ x. runs-are-one (code E ds) bound 0 (start (first_block E ds main) input) r (seen_of (full bound E main input)) x f,
+      λ x. runs-are-one (code E ds) bound 0 (start (first_block E ds main) input) r
+          (seen_of (full bound E main input)) x f,
       λ e. subst (Runs (code E ds) bound 0 (start (first_block E ds main) input)) (sym e) f,
     )
 
@@ -33,7 +35,10 @@ full-closes E w whole main m bound input =
       trapped = t.trapped;
     }
 
-pub code-closes-tapes : (E : Env) → WellFormed E → Complete E → (ds : List GlobalId) → Lists E ds → (main : GlobalId) → IsMain E main →
-    (bound : ℕ) (input : List ℕ) (r : Seen) → Runs (code E ds) bound 0 (start (first_block E ds main) input) r → ClosesTapes r
+pub code-closes-tapes : (E : Env) → WellFormed E → Complete E → (ds : List GlobalId) → Lists E ds →
+    (main : GlobalId) → IsMain E main →
+    (bound : ℕ) (input : List ℕ) (r : Seen) → Runs (code E ds) bound 0 (start (first_block E ds main) input) r →
+    ClosesTapes r
 code-closes-tapes E w whole ds l main m bound input r x =
-    subst ClosesTapes (sym ((code-runs-as-full-runs E w whole ds l main m bound input r).0 x)) (full-closes E w whole main m bound input)
+    subst ClosesTapes (sym ((code-runs-as-full-runs E w whole ds l main m bound input r).0 x))
+    (full-closes E w whole main m bound input)

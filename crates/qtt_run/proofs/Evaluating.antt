@@ -56,11 +56,13 @@ module _ (E : Env) (w : WellFormed E) (whole : Complete E) where
   stopped-alike n t (full.Outcome.trap k) l a g = record { same = ap (erased.stopped n (erase E [] t)) a; free = tt }
   stopped-alike n t full.Outcome.stuck l a g = absurd g
 
-  continued-alike : (n : ℕ) (t : Term) (o : full.Outcome) (l : Outcome Lean) (f : Term → Evaluation) (g : Lean → erased.Evaluation) →
+  continued-alike : (n : ℕ) (t : Term) (o : full.Outcome) (l : Outcome Lean) (f : Term → Evaluation)
+      (g : Lean → erased.Evaluation) →
       Agrees E o l → Goes o →
       ((s : Term) → o ≡ full.Outcome.step s → Alike E (f s) (g (erase E [] s))) →
       Alike E (continued n t o f) (erased.continued n (erase E [] t) l g)
-  continued-alike n t full.Outcome.value l f g a free next = record { same = ap (λ l. erased.continued n (erase E [] t) l g) a; free = tt }
+  continued-alike n t full.Outcome.value l f g a free next =
+      record { same = ap (λ l. erased.continued n (erase E [] t) l g) a; free = tt }
   continued-alike n t (full.Outcome.step s) l f g a free next =
       subst (λ l. Alike E (f s) (erased.continued n (erase E [] t) l g)) (sym a.0) (next s refl)
   continued-alike n t (full.Outcome.trap k) l f g a free next =
@@ -73,7 +75,8 @@ module _ (E : Env) (w : WellFormed E) (whole : Complete E) where
   agrees : {t A : Term} {u : Use} → Has E Part.run [] t A u → Agrees E (full_step E t) (erased_step E t)
   agrees {t} h = term-agrees E (bodies-clean E w) t (has-clean h)
 
-  pub next-typed : {t s A : Term} {u : Use} → full_step E t ≡ full.Outcome.step s → Has E Part.run [] t A u → Has E Part.run [] s A u
+  pub next-typed : {t s A : Term} {u : Use} → full_step E t ≡ full.Outcome.step s → Has E Part.run [] t A u →
+      Has E Part.run [] s A u
   next-typed {t} {s} {A} {u} e h = preservation (full-move E t s e) (sound_of w) Part.run [] A u h
 
   evaluated-alike : (bound n : ℕ) (t A : Term) (u : Use) → Has E Part.run [] t A u →
@@ -89,7 +92,8 @@ module _ (E : Env) (w : WellFormed E) (whole : Complete E) where
     pub runs : ProgramRuns (bodies E ds)
     runs = programs-run (bodies E ds) (programs-are-lowered.sources E (bodies-whole E w) ds)
 
-    ends-alike : (bound n : ℕ) (s : State) (x : Ending) → NotStuck x → erased.Answers (flat_program (bodies E ds)) (code E ds) bound s n
+    ends-alike : (bound n : ℕ) (s : State) (x : Ending) → NotStuck x →
+        erased.Answers (flat_program (bodies E ds)) (code E ds) bound s n
         (erased_ending E x) →
         Answers E ds bound s n x
     ends-alike bound n s (Ending.value t) free a = a
@@ -97,17 +101,20 @@ module _ (E : Env) (w : WellFormed E) (whole : Complete E) where
     ends-alike bound n s Ending.going free a = a
     ends-alike bound n s Ending.stuck free a = absurd free
 
-    pub answers-as : {t A : Term} {u : Use} (s : State) → Has E Part.run [] t A u → Represents E ds t s → AnswersAs E ds s t
+    pub answers-as : {t A : Term} {u : Use} (s : State) → Has E Part.run [] t A u → Represents E ds t s →
+        AnswersAs E ds s t
     answers-as {t} {A} {u} s h r bound =
         let x : Evaluation = evaluated E bound 0 t in
         let same : Alike E x (erased.evaluation (lean_step (lean_bodies (bodies E ds))) bound 0 (erase E [] t)) =
-        subst (λ B. Alike E x (erased.evaluation (lean_step B) bound 0 (erase E [] t))) (sym (programs-are-lowered.erased E ds listed))
+        subst (λ B. Alike E x (erased.evaluation (lean_step B) bound 0 (erase E [] t)))
+        (sym (programs-are-lowered.erased E ds listed))
         (evaluated-alike bound 0 t A u h) in
         ends-alike bound x.made s x.ending same.free
         (subst (λ y. erased.Answers (flat_program (bodies E ds)) (code E ds) bound s y.made y.ending) same.same
         (runs.bounded (erase E [] t) s r bound))
 
-    pub call-represents : (q : Mult) (f a : Term) (g b : Value) → Usable Part.run q → IsValueOf E ds f g → IsValueOf E ds a b →
+    pub call-represents : (q : Mult) (f a : Term) (g b : Value) → Usable Part.run q → IsValueOf E ds f g →
+        IsValueOf E ds a b →
         Represents E ds (App q f a) (called g b)
     call-represents 𝟘 f a g b used h k = absurd used
     call-represents 𝟙 f a g b used h k = runs.call (erase E [] f) (erase E [] a) g b h k

@@ -37,7 +37,8 @@ line-adds false c v r w = tt
 read-adds : (c : Config) (bs : List ℕ) → TurnAdds c (read c bs)
 read-adds c [] = adds-none c.events
 read-adds c (b ∷ bs) =
-    line-adds (is_line (line_of (b ∷ bs))) c (pure_got (line_of (b ∷ bs))) (after_line (b ∷ bs)) (Verdict.trapped Cause.bad_input_line)
+    line-adds (is_line (line_of (b ∷ bs))) c (pure_got (line_of (b ∷ bs))) (after_line (b ∷ bs))
+    (Verdict.trapped Cause.bad_input_line)
 
 use-adds : (c : Config) (v : Value) (e : Event) (o : Option (List Taped)) → TurnAdds c (use_tape c v e o)
 use-adds c v e (Some tapes) = (e ∷ [], refl)
@@ -49,7 +50,8 @@ turn-adds c (Value.action (Action.pure m) (v ▹ Values.none)) = resume-adds v c
 turn-adds c (Value.action Action.put_line (Value.literal (literal.Text s) ▹ Values.none)) = (Event.line s ∷ [], refl)
 turn-adds c (Value.action Action.get_line Values.none) = read-adds c c.input
 turn-adds c (Value.action Action.opens (Value.literal (literal.Text s) ▹ Values.none)) = (Event.opened s ∷ [], refl)
-turn-adds c (Value.action Action.writes (Value.tape h ▹ Value.literal (literal.Text s) ▹ Values.none)) = use-adds c _ _ _
+turn-adds c (Value.action Action.writes (Value.tape h ▹ Value.literal (literal.Text s) ▹ Values.none)) =
+    use-adds c _ _ _
 turn-adds c (Value.action Action.closes (Value.tape h ▹ Values.none)) = use-adds c _ _ _
 turn-adds c _ = tt
 

@@ -5,7 +5,7 @@ use Rattle.qtt_term.specs.Term.{Term}
 use Rattle.qtt_term.specs.Signature.{Env}
 use Rattle.qtt_term.specs.FullStep.{Outcome, full_step}
 use Rattle.qtt_term.specs.FullRun as full
-use Rattle.qtt_term.specs.FullRun.{Verdict, Turn, take_turn, turn, at_end, Run, going, run_on, perform}
+use Rattle.qtt_term.specs.FullRun.{Verdict, take_turn, at_end, Run, going, run_on}
 use Rattle.qtt_term.specs.Judgement.{Part}
 use Rattle.qtt_term.specs.Environment.{WellFormed, Complete}
 use Rattle.qtt_preserve.specs.Within.{Has}
@@ -21,7 +21,8 @@ module _ (E : Env) where
   -- a run that ends at this count, where its term was evaluated in so many steps to this ending
   abbrev pub Jumps : ℕ → full.Config → Run → ℕ → Ending → Type 0
   Jumps end c r made (Ending.value t) =
-      (rest : ℕ) × (made + rest ≡ end) × (r ≡ run_on rest E made (record c { term = t })) × (full_step E t ≡ Outcome.value)
+      (rest : ℕ) × (made + rest ≡ end) × (r ≡ run_on rest E made (record c { term = t })) ×
+      (full_step E t ≡ Outcome.value)
   Jumps end c r made (Ending.trapped k) = seen_of r ≡ stop (Verdict.trapped k) made c
   Jumps end c r made Ending.going = seen_of r ≡ stop Verdict.running made c
   Jumps end c r made Ending.stuck = Unit {0}
@@ -46,17 +47,20 @@ module _ (E : Env) where
       (run_on left E (suc n) (record c { term = s })) x.made x.ending) →
       let x : Evaluation = continued n c.term o (evaluated E left (suc n)) in Jumps (n + suc left) c
       (going n c (take_turn c o) (run_on left E (suc n))) x.made x.ending
-  continued-jumps left n c Outcome.value e next = (suc left, refl, ap (λ o. going n c (take_turn c o) (run_on left E (suc n))) (sym e), e)
+  continued-jumps left n c Outcome.value e next =
+      (suc left, refl, ap (λ o. going n c (take_turn c o) (run_on left E (suc n))) (sym e), e)
   continued-jumps left n c (Outcome.step s) e next =
       let x : Evaluation = evaluated E left (suc n) s in
-      jumps-on (suc n + left) (n + suc left) c s (run_on left E (suc n) (record c { term = s })) x.made x.ending (omega arith) (next s)
+      jumps-on (suc n + left) (n + suc left) c s (run_on left E (suc n) (record c { term = s })) x.made x.ending
+      (omega arith) (next s)
   continued-jumps left n c (Outcome.trap k) e next = refl
   continued-jumps left n c Outcome.stuck e next = tt
 
   jumps : (left n : ℕ) (c : full.Config) → let x : Evaluation =
       evaluated E left n c.term in Jumps (n + left) c (run_on left E n c) x.made x.ending
   jumps zero n c = stopped-jumps n c (full_step E c.term) refl
-  jumps (suc left) n c = continued-jumps left n c (full_step E c.term) refl (λ s. jumps left (suc n) (record c { term = s }))
+  jumps (suc left) n c = continued-jumps left n c (full_step E c.term) refl
+      (λ s. jumps left (suc n) (record c { term = s }))
 
   -- ---- an evaluation that is counted from n on
   record Shifted (n : ℕ) (x y : Evaluation) : Type 0 where
@@ -69,7 +73,8 @@ module _ (E : Env) where
   stopped-shifted n k j t (Outcome.trap c) e = record { made = e; ending = refl }
   stopped-shifted n k j t Outcome.stuck e = record { made = e; ending = refl }
 
-  continued-shifted : (n k j : ℕ) (t : Term) (o : Outcome) (f g : Term → Evaluation) → j ≡ n + k → ((s : Term) → Shifted n (f s) (g s)) →
+  continued-shifted : (n k j : ℕ) (t : Term) (o : Outcome) (f g : Term → Evaluation) → j ≡ n + k →
+      ((s : Term) → Shifted n (f s) (g s)) →
       Shifted n (continued j t o f) (continued k t o g)
   continued-shifted n k j t Outcome.value f g e next = record { made = e; ending = refl }
   continued-shifted n k j t (Outcome.step s) f g e next = next s
@@ -105,7 +110,8 @@ module _ (E : Env) (w : WellFormed E) (whole : Complete E) (A : Term) (u : Use) 
   stopped-typed n t Outcome.stuck h = tt
 
   continued-typed : (bound n : ℕ) (t : Term) (o : Outcome) → full_step E t ≡ o → Has E Part.run [] t A u →
-      ((s : Term) → Has E Part.run [] s A u → let x : Evaluation = evaluated E bound (suc n) s in EndsTyped E A u x.ending) →
+      ((s : Term) → Has E Part.run [] s A u →
+      let x : Evaluation = evaluated E bound (suc n) s in EndsTyped E A u x.ending) →
       let x : Evaluation = continued n t o (evaluated E bound (suc n)) in EndsTyped E A u x.ending
   continued-typed bound n t Outcome.value e h next = h
   continued-typed bound n t (Outcome.step s) e h next = next s (next-typed E w whole e h)

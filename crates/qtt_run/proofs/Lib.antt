@@ -7,7 +7,9 @@ pub mod Jumping
 pub mod Performing
 pub mod RunsBeside
 pub mod Unique
+pub mod Ticking
 pub mod EndToEnd
+pub mod Entries
 pub mod Events
 pub mod Keeping
 pub mod Listing
@@ -15,7 +17,7 @@ pub mod Rows
 pub mod Compiled
 pub mod TypedCode
 pub mod Telling
-pub mod UnderWay
+pub mod Waiting
 pub mod Effects
 pub mod Getting
 pub mod Based
@@ -29,7 +31,3 @@ pub mod Reading
 pub mod Handling
 pub mod Closing
 pub mod Outcome
-pub mod Judging
-pub mod Runnable
-pub mod Worked
-pub mod Building

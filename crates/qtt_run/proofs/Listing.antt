@@ -20,11 +20,13 @@ contains-later : {X : Type 0} (x y : X) (xs : List X) → Contains xs y → Cont
 contains-later x y xs (k, l, e) = (suc k, omega (arith, l), e)
 
 -- what has code is there
-coded-there : (E : Env) (o : Option Definition) (t : Lean) → erased_body E (definition_of o).mult (definition_of o).body ≡ Some t → There o
+coded-there : (E : Env) (o : Option Definition) (t : Lean) →
+    erased_body E (definition_of o).mult (definition_of o).body ≡ Some t → There o
 coded-there E None t e = absurd (none≢some e)
 coded-there E (Some D) t e = tt
 
-pub lists-there : (E : Env) (ds : List GlobalId) → ((d : GlobalId) → There (E.definition d) → Contains ds d) → Lists E ds
+pub lists-there : (E : Env) (ds : List GlobalId) → ((d : GlobalId) → There (E.definition d) → Contains ds d) →
+    Lists E ds
 lists-there E ds h d t e = h d (coded-there E (E.definition d) t e)
 
 -- the ids of entries are those under which entries are found
@@ -45,10 +47,12 @@ one-listed D = lists-there (program [] ((0, D) ∷ [])) (item 0 ∷ []) (λ d h.
     second : (d : GlobalId) (b : Bool) → eqb d.module.0 1 ≡ true → eqb 0 d.item ≡ b → There (cond b (Some D) None) →
         Contains (item 0 ∷ []) d
     second d true e f h =
-        contains-first (item 0) d [] (ap₂ (λ m i. record { «module» = record { 0 = m }; item = i }) (sym (eqb-true d.module.0 1 e))
+        contains-first (item 0) d []
+        (ap₂ (λ m i. record { «module» = record { 0 = m }; item = i }) (sym (eqb-true d.module.0 1 e))
         (eqb-true 0 d.item f))
     second d false e f h = elim h [ ]
 
-    at : (d : GlobalId) (b : Bool) → eqb d.module.0 1 ≡ b → There (cond b (listed ((0, D) ∷ []) d.item) None) → Contains (item 0 ∷ []) d
+    at : (d : GlobalId) (b : Bool) → eqb d.module.0 1 ≡ b → There (cond b (listed ((0, D) ∷ []) d.item) None) →
+        Contains (item 0 ∷ []) d
     at d true e h = second d (eqb 0 d.item) e refl h
     at d false e h = elim h [ ]

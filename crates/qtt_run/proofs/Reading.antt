@@ -23,10 +23,12 @@ not-over P lines isnt is = let wrong : ⊥ = cc in absurd wrong
 -- before the end is known, some input may be left
 pub has-input : (lines : Lines) (content : Option (List ℕ)) → lines.at_end ≡ false → HasInput lines content
 has-input lines None before = ([], record { told = tt; over = λ over. not-over _ lines before over })
-has-input lines (Some left) before = (lines.cutter ++ left, record { told = refl; over = λ over. not-over _ lines before over })
+has-input lines (Some left) before =
+    (lines.cutter ++ left, record { told = refl; over = λ over. not-over _ lines before over })
 
 -- behind the end nothing is found
-pub end-again : (lines : Lines) (content : Option (List ℕ)) (rest : List ℕ) → lines.at_end ≡ true → LeftOver lines content rest →
+pub end-again : (lines : Lines) (content : Option (List ℕ)) (rest : List ℕ) → lines.at_end ≡ true →
+    LeftOver lines content rest →
     FoundIn lines content rest End
 end-again lines content rest over left = (rest, left, (left.over over, left.over over))
 
@@ -39,7 +41,8 @@ end-found old new (Some held) (Some kept) rest before over cuts left =
 end-found old new None (Some kept) rest before over cuts left = absurd cuts
 end-found old new (Some held) None rest before over cuts left = absurd cuts
 
-pub end-leaves : (old new : Lines) (c d : Option (List ℕ)) → Cuts (all_told old.cutter c) (all_told new.cutter d) (Ok next.End) →
+pub end-leaves : (old new : Lines) (c d : Option (List ℕ)) →
+    Cuts (all_told old.cutter c) (all_told new.cutter d) (Ok next.End) →
     HasInput new d
 end-leaves old new None None cuts = ([], record { told = tt; over = λ _. refl })
 end-leaves old new (Some held) (Some kept) cuts = ([], record { told = sym cuts.1; over = λ _. refl })
@@ -56,12 +59,17 @@ untold-line s rest fits whole =
     let front : line_of (s ++ 10 ∷ rest) ≡ s = line_of-append s (10 ∷ rest) whole ∙ append-nil s in
     (not-empty s rest, ap is_line front ∙ fits, sym front, sym (after_line-append s (10 ∷ rest) whole))
 
-pub line-found : (old new : Lines) (c d : Option (List ℕ)) (s rest : List ℕ) → old.at_end ≡ false → is_line s ≡ true → line_of s ≡ s →
-    Cuts (all_told old.cutter c) (all_told new.cutter d) (Ok (next.Line s)) → LeftOver new d rest → FoundIn old c rest (Line s)
+pub line-found : (old new : Lines) (c d : Option (List ℕ)) (s rest : List ℕ) → old.at_end ≡ false →
+    is_line s ≡ true → line_of s ≡ s →
+    Cuts (all_told old.cutter c) (all_told new.cutter d) (Ok (next.Line s)) → LeftOver new d rest →
+    FoundIn old c rest (Line s)
 line-found old new None None s rest before fits whole cuts left =
     (s ++ 10 ∷ rest, record { told = tt; over = λ e. not-over _ old before e }, untold-line s rest fits whole)
-line-found old new (Some held) (Some kept) s rest before fits whole cuts left =
-    (old.cutter ++ held, record { told = refl; over = λ e. not-over _ old before e }, (cuts.0, cuts.1, cuts.2, left.told ∙ cuts.3))
+line-found old new (Some held) (Some kept) s rest before fits whole cuts left = (
+  old.cutter ++ held,
+  record { told = refl; over = λ e. not-over _ old before e },
+  (cuts.0, cuts.1, cuts.2, left.told ∙ cuts.3),
+)
 line-found old new None (Some kept) s rest before fits whole cuts left = absurd cuts
 line-found old new (Some held) None s rest before fits whole cuts left = absurd cuts
 
@@ -84,22 +92,31 @@ untold-none = (λ e. cc, refl)
 
 long-found : (old new : Lines) (c d : Option (List ℕ)) (rest : List ℕ) → old.at_end ≡ false →
     Cuts (all_told old.cutter c) (all_told new.cutter d) (Ok next.TooLong) → FoundIn old c rest Bad
-long-found old new None None rest before cuts = (untold, record { told = tt; over = λ e. not-over _ old before e }, untold-none)
-long-found old new (Some held) (Some kept) rest before cuts =
-    (old.cutter ++ held, record { told = refl; over = λ e. not-over _ old before e }, long-is-none (old.cutter ++ held) cuts.0)
+long-found old new None None rest before cuts =
+    (untold, record { told = tt; over = λ e. not-over _ old before e }, untold-none)
+long-found old new (Some held) (Some kept) rest before cuts = (
+  old.cutter ++ held,
+  record { told = refl; over = λ e. not-over _ old before e },
+  long-is-none (old.cutter ++ held) cuts.0,
+)
 long-found old new None (Some kept) rest before cuts = absurd cuts
 long-found old new (Some held) None rest before cuts = absurd cuts
 
 not-text-found : (old new : Lines) (c d : Option (List ℕ)) (rest : List ℕ) → old.at_end ≡ false →
     Cuts (all_told old.cutter c) (all_told new.cutter d) (Ok next.NotUtf8) → FoundIn old c rest Bad
-not-text-found old new None None rest before cuts = (untold, record { told = tt; over = λ e. not-over _ old before e }, untold-none)
-not-text-found old new (Some held) (Some kept) rest before cuts =
-    (old.cutter ++ held, record { told = refl; over = λ e. not-over _ old before e }, not-text-is-none (old.cutter ++ held) cuts.0 cuts.1)
+not-text-found old new None None rest before cuts =
+    (untold, record { told = tt; over = λ e. not-over _ old before e }, untold-none)
+not-text-found old new (Some held) (Some kept) rest before cuts = (
+  old.cutter ++ held,
+  record { told = refl; over = λ e. not-over _ old before e },
+  not-text-is-none (old.cutter ++ held) cuts.0 cuts.1,
+)
 not-text-found old new None (Some kept) rest before cuts = absurd cuts
 not-text-found old new (Some held) None rest before cuts = absurd cuts
 
 pub none-found : (old new : Lines) (c d : Option (List ℕ)) (rest : List ℕ) (answer : Next) → old.at_end ≡ false →
-    (answer ≡ next.TooLong) ⊎ (answer ≡ next.NotUtf8) → Cuts (all_told old.cutter c) (all_told new.cutter d) (Ok answer) →
+    (answer ≡ next.TooLong) ⊎ (answer ≡ next.NotUtf8) →
+    Cuts (all_told old.cutter c) (all_told new.cutter d) (Ok answer) →
     FoundIn old c rest Bad
 none-found old new c d rest answer before (inl is) cuts = long-found old new c d rest before (rw is at cuts)
 none-found old new c d rest answer before (inr is) cuts = not-text-found old new c d rest before (rw is at cuts)

@@ -14,7 +14,8 @@ use Rattle.qtt_run.proofs.Listing.{one-listed}
 use Rattle.qtt_run.proofs.EndToEnd.{code-runs-as-full-runs}
 
 -- what is seen of the full run is seen of the code's
-as-full : (E : Env) → IsProgram E → Lists E (item 0 ∷ []) → (bound : ℕ) (r : Seen) → r ≡ seen_of (full bound E (item 0) []) →
+as-full : (E : Env) → IsProgram E → Lists E (item 0 ∷ []) →
+    (bound : ℕ) (r : Seen) → r ≡ seen_of (full bound E (item 0) []) →
     Runs (code E (item 0 ∷ [])) bound 0 (start (first_block E (item 0 ∷ []) (item 0)) []) r
 as-full E p l bound r e = (code-runs-as-full-runs E p.formed p.complete (item 0 ∷ []) l (item 0) p.main bound [] r).1 e
 

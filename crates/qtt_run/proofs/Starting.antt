@@ -1,11 +1,10 @@
 -- Where a run begins, it is under way.
-use Rattle.std.proofs.Common.{◌≡◌, ℕ, ◌≤◌, List, [], Option, Some, None, option_map, refl, sym, ◌∙◌, ap, subst, append-nil, arith}
+use Rattle.std.proofs.Common.{◌≡◌, ℕ, ◌≤◌, List, [], Option, Some, None, option_map, inl, refl, sym, ◌∙◌, ap, subst, append-nil, arith}
 use Rattle.std.specs.Prelude.{IfSome}
 use Rattle.std.specs.Option.{ForSome}
 use Rattle.qtt_base.specs.declared.place.GlobalId.{GlobalId}
 use Rattle.qtt_prims.specs.Tapes.{Taped}
 use Rattle.qtt_edge.specs.Sink.{Adds}
-use Rattle.qtt_edge.specs.Tapes.{KeepsOthers}
 use Rattle.qtt_term.specs.Signature.{Env, UnitTy}
 use Rattle.qtt_term.specs.Keyed.{with_id}
 use Rattle.qtt_term.proofs.Options.{some-injective}
@@ -19,6 +18,7 @@ use Rattle.qtt_lower.proofs.Forward.{jumps-go-forward}
 use Rattle.qtt_run.specs.declared.running.Running.{Running}
 use Rattle.qtt_run.specs.Beside.{IsTyped}
 use Rattle.qtt_run.specs.CodeRun.{Now, Runs, Seen, start}
+use Rattle.qtt_run.specs.Front.{Failure}
 use Rattle.qtt_run.specs.Handles.{Mirrors}
 use Rattle.qtt_run.specs.Laws.{CodeKeepsTypes}
 use Rattle.qtt_run.specs.Lines.{LeftOver}
@@ -26,7 +26,6 @@ use Rattle.qtt_run.specs.Program.{block_of, IsCodeOfMain}
 use Rattle.qtt_run.specs.Underway.{Origin, Began, Broken, IsTypedIn, Underway, Computes, StartsAt, RestsAtStart, waiting_of}
 use Rattle.qtt_run.proofs.Keeping.{code-keeps-types}
 use Rattle.qtt_run.proofs.TypedCode.{typed-answers, typed-runs}
-use Rattle.qtt_run.proofs.Telling.{keeps-all}
 
 adds-zero : (u : Option (List ℕ)) → Adds u u []
 adds-zero None = refl
@@ -40,7 +39,8 @@ some-told : (content : Option (List ℕ)) → (i : List ℕ) × IfSome content (
 some-told None = ([], tt)
 some-told (Some all) = (all, refl)
 
-some-input : (m : Running) (content : Option (List ℕ)) → ((i : List ℕ) → RestsAtStart m content i) → (i : List ℕ) × LeftOver m.lines content i
+some-input : (m : Running) (content : Option (List ℕ)) → ((i : List ℕ) → RestsAtStart m content i) →
+    (i : List ℕ) × LeftOver m.lines content i
 some-input m None h = ([], (h []).1 tt)
 some-input m (Some all) h = (all, (h all).1 refl)
 
@@ -57,7 +57,8 @@ module _ (c : Compiled) (main : GlobalId) (E : Env) (k : IsCodeOfMain c main E) 
         listed = k.listed;
         program = k.program;
         typed =
-            subst (λ n. IsTyped E k.ids UnitTy (start n i)) (some-injective (sym k.begins ∙ begins)) (laws.starts main k.is_main i);
+            subst (λ n. IsTyped E k.ids UnitTy (start n i)) (some-injective (sym k.begins ∙ begins))
+            (laws.starts main k.is_main i);
       }
 
   pub start-answers : Answers (compiled_program c) (machine.start block)
@@ -66,40 +67,57 @@ module _ (c : Compiled) (main : GlobalId) (E : Env) (k : IsCodeOfMain c main E) 
   pub start-jumps : AllJumpForward (compiled_program c)
   start-jumps = subst AllJumpForward (sym k.program) (jumps-go-forward (bodies E k.ids))
 
-  module _ (bound : ℕ) (small : bound ≤ 4000000000) (content output : Option (List ℕ)) (told : Option (List Taped)) where
+  module _ (bound : ℕ) (small : bound ≤ 4000000000) (content output : Option (List ℕ))
+      (told : Option (List Taped)) where
     abbrev pub origin : Origin
-    origin = record { program = compiled_program c; jumps = start-jumps; block = block; bound = bound; small = small; input = content; output = output; tapes = told }
+    origin = record {
+      program = compiled_program c;
+      jumps = start-jumps;
+      block = block;
+      bound = bound;
+      small = small;
+      input = content;
+      output = output;
+      tapes = told;
+    }
 
     -- nothing is done yet
-    pub start-broken : ForSome told (λ all. all ≡ []) → Broken origin bound output told
+    pub start-broken : ForSome told (λ all. all ≡ []) → Broken origin Failure.memory bound output told
     start-broken none =
         let (i, p) = some-told content in
         let (r, run) = typed-runs (start-typed i) bound 0 in
         record {
           seen = r;
           began = record { input = i; told = p; run = run };
-          events = [];
-          later = r.events;
-          front = refl;
+          did = record {
+            events = [];
+            later = r.events;
+            front = refl;
+            part = inl (record { output = adds-zero output; tapes = tells-zero told none });
+          };
           made = 0;
           counted = omega arith;
           reached = omega arith;
-          bytes = 0;
-          puts = adds-zero output;
-          tape = 0;
-          tells = subst (λ q. KeepsOthers 0 q told) (tells-zero told none) (keeps-all 0 told);
         }
 
-    pub begins-underway : (m : Running) → StartsAt (compiled_program c) block m → ((i : List ℕ) → RestsAtStart m content i) → m.left ≡ bound →
+    pub begins-underway : (m : Running) → StartsAt (compiled_program c) block m →
+        ((i : List ℕ) → RestsAtStart m content i) → m.left ≡ bound →
         ForSome told (λ all. all ≡ []) → Mirrors m.handles told [] → Computes origin m content output told
     begins-underway m s rests e none mirrors = (machine.start block, record { run = run; stands = s.0 })
       where
-        way : (i : List ℕ) → LeftOver m.lines content i → (r : Seen) → Runs (compiled_program c) m.left 0 (start block i) r → Began origin r
-        way i p r x = record { input = i; told = (rests i).0 p; run = subst (λ n. Runs (compiled_program c) n 0 (start block i) r) e x }
+        way : (i : List ℕ) → LeftOver m.lines content i →
+            (r : Seen) → Runs (compiled_program c) m.left 0 (start block i) r → Began origin r
+        way i p r x = record {
+          input = i;
+          told = (rests i).0 p;
+          run = subst (λ n. Runs (compiled_program c) n 0 (start block i) r) e x;
+        }
 
-        run : Underway origin (Now.computing (machine.start block)) (waiting_of m) m.left (LeftOver m.lines content) m.handles output told
+        run : Underway origin (Now.computing (machine.start block)) (waiting_of m) m.left
+            (LeftOver m.lines content) m.handles output told
         run =
-            subst (λ ws. Underway origin (Now.computing (machine.start block)) ws m.left (LeftOver m.lines content) m.handles output told)
+            subst (λ ws. Underway origin (Now.computing (machine.start block)) ws m.left
+            (LeftOver m.lines content) m.handles output told)
             (sym s.1)
             (record {
               events = [];

@@ -1,8 +1,8 @@
 -- What the output and the tapes hold after events.
-use Rattle.std.proofs.Common.{◌≡◌, ℕ, zero, suc, Bool, true, false, cond, List, [], ◌∷◌, ◌++◌, length, take, Option, Some, None, option_map, refl, sym, ◌∙◌, ap, subst, append-nil, append_assoc}
+use Rattle.std.proofs.Common.{◌≡◌, ℕ, zero, suc, Bool, true, false, cond, List, [], ◌∷◌, ◌++◌, length, Option, Some, None, option_map, refl, sym, ◌∙◌, ap, append-nil, append_assoc}
 use Rattle.qtt_prims.specs.Tapes.{Taped, changed}
-use Rattle.qtt_edge.specs.Sink.{Adds, AddsFront}
-use Rattle.qtt_edge.specs.Tapes.{IsOpenAt, KeepsOthers}
+use Rattle.qtt_edge.specs.Sink.{Adds}
+use Rattle.qtt_edge.specs.Tapes.{IsOpenAt}
 use Rattle.qtt_term.specs.FullRun.{Event, at_open, closes_from, tape_list, text_of}
 use Rattle.qtt_term.proofs.Options.{none≢some, some-injective, chain-some, cond-some}
 
@@ -33,30 +33,18 @@ nil-front [] ys e = refl
 nil-front (x ∷ xs) ys e = absurd (cc e)
 
 -- closes put no line, nor do the first of them
-pub text-closes : (es ds later : List Event) (h : ℕ) (ts : List Taped) → closes_from h ts ≡ ds ++ later → text_of (es ++ ds) ≡ text_of es
+pub text-closes : (es ds later : List Event) (h : ℕ) (ts : List Taped) → closes_from h ts ≡ ds ++ later →
+    text_of (es ++ ds) ≡ text_of es
 text-closes es ds later h ts e =
-    let n : text_of ds ≡ [] = nil-front (text_of ds) (text_of later) (sym (text-append ds later) ∙ ap text_of (sym e) ∙ closes-text h ts) in
+    let n : text_of ds ≡ [] =
+    nil-front (text_of ds) (text_of later)
+    (sym (text-append ds later) ∙ ap text_of (sym e) ∙ closes-text h ts) in
     text-append es ds ∙ ap (λ bs. text_of es ++ bs) n ∙ append-nil (text_of es)
 
 pub adds-then : (a b c : Option (List ℕ)) (xs ys : List ℕ) → Adds a b xs → Adds b c ys → Adds a c (xs ++ ys)
 adds-then None b c xs ys p q = q ∙ ap (λ o. option_map (λ held. held ++ ys) o) p
-adds-then (Some a) b c xs ys p q = q ∙ ap (λ o. option_map (λ held. held ++ ys) o) p ∙ ap (λ l. Some l) (append_assoc a xs ys)
-
--- no byte more
-pub adds-still : (a b : Option (List ℕ)) (xs : List ℕ) → Adds a b xs → Adds a b (xs ++ [])
-adds-still a b xs p = subst (Adds a b) (sym (append-nil xs)) p
-
--- a front of some bytes is one of these and more
-front-more : (n : ℕ) (xs ys : List ℕ) → (m : ℕ) × (take m (xs ++ ys) ≡ take n xs)
-front-more zero xs ys = (0, refl)
-front-more (suc n) [] ys = (0, refl)
-front-more (suc n) (x ∷ xs) ys = let (m, e) = front-more n xs ys in (suc m, ap (λ l. x ∷ l) e)
-
-pub adds-front : (a b c : Option (List ℕ)) (xs ys zs : List ℕ) → Adds a b xs → AddsFront b c ys →
-    (n : ℕ) × Adds a c (xs ++ take n (ys ++ zs))
-adds-front a b c xs ys zs p (n, q) =
-    let (m, e) = front-more n ys zs in
-    (m, subst (λ l. Adds a c (xs ++ l)) (sym e) (adds-then a b c xs (take n ys) p q))
+adds-then (Some a) b c xs ys p q =
+    q ∙ ap (λ o. option_map (λ held. held ++ ys) o) p ∙ ap (λ l. Some l) (append_assoc a xs ys)
 
 -- ---- tapes
 pub told-append : (ts : List Taped) (es ds : List Event) → tape_list ts (es ++ ds) ≡ tape_list (tape_list ts es) ds
@@ -74,7 +62,8 @@ pub open-changed : (h : ℕ) (g : Taped → Taped) (T U : List Taped) → at_ope
 open-changed h g [] U e = absurd (none≢some e)
 open-changed zero g (t ∷ T) U e = some-injective (cond-some t.is_open (Some (g t ∷ T)) U e).1
 open-changed (suc h) g (t ∷ T) U e =
-    let r = chain-some (at_open h g T) (λ us. Some (t ∷ us)) U e in ap (λ us. t ∷ us) (open-changed h g T r.0 r.1) ∙ some-injective r.2
+    let r = chain-some (at_open h g T) (λ us. Some (t ∷ us)) U e in ap (λ us. t ∷ us)
+    (open-changed h g T r.0 r.1) ∙ some-injective r.2
 
 pub open-at : (h : ℕ) (g : Taped → Taped) (T U : List Taped) → at_open h g T ≡ Some U → IsOpenAt h T
 open-at h g [] U e = absurd (none≢some e)
@@ -87,12 +76,8 @@ changed-length h g [] = refl
 changed-length zero g (t ∷ T) = refl
 changed-length (suc h) g (t ∷ T) = ap suc (changed-length h g T)
 
-pub tells-then : (a t s : Option (List Taped)) (ts : List Taped) (f : List Taped → List Taped) → t ≡ option_map (λ _. ts) a →
+pub tells-then : (a t s : Option (List Taped)) (ts : List Taped) (f : List Taped → List Taped) →
+    t ≡ option_map (λ _. ts) a →
     s ≡ option_map f t → s ≡ option_map (λ _. f ts) a
 tells-then None t s ts f p q = q ∙ ap (λ o. option_map f o) p
 tells-then (Some a) t s ts f p q = q ∙ ap (λ o. option_map f o) p
-
--- tapes that stay keep each but one
-pub keeps-all : (n : ℕ) (t : Option (List Taped)) → KeepsOthers n t t
-keeps-all n None = tt
-keeps-all n (Some ts) = record { count = refl; others = λ other _. refl }

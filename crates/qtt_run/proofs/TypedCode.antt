@@ -33,19 +33,23 @@ typed-answers {c = c} t s e bound =
     let k : CodeKeepsTypes t.env t.ids = keeps t in
     subst (λ P. (h : Halt) × Advances P bound s h) (sym t.program) (k.answers UnitTy c s t.typed e bound)
 
-pub typed-gives : {P : Program} {c : Config} → IsTypedIn P c → (s : State) (v : Value) (bound : ℕ) → c.now ≡ Now.computing s →
+pub typed-gives : {P : Program} {c : Config} → IsTypedIn P c → (s : State) (v : Value) (bound : ℕ) →
+    c.now ≡ Now.computing s →
     Advances P bound s (Halt.done v) →
     IsTypedIn P (record c { now = Now.gave v })
 typed-gives {c = c} t s v bound e a =
     let k : CodeKeepsTypes t.env t.ids = keeps t in
-    again t (record c { now = Now.gave v }) (k.gives UnitTy c s v bound t.typed e (subst (λ P. Advances P bound s (Halt.done v)) t.program a))
+    again t (record c { now = Now.gave v })
+    (k.gives UnitTy c s v bound t.typed e (subst (λ P. Advances P bound s (Halt.done v)) t.program a))
 
-pub typed-turns : {P : Program} {c : Config} → IsTypedIn P c → (d : Config) (v : Value) → c.now ≡ Now.gave v → turn c v ≡ Turn.goes d →
+pub typed-turns : {P : Program} {c : Config} → IsTypedIn P c → (d : Config) (v : Value) → c.now ≡ Now.gave v →
+    turn c v ≡ Turn.goes d →
     IsTypedIn P d
 typed-turns {c = c} t d v e a =
     let k : CodeKeepsTypes t.env t.ids = keeps t in again t d (k.turns UnitTy c d v t.typed e a)
 
-pub typed-unstuck : {P : Program} {c : Config} → IsTypedIn P c → (v : Value) → c.now ≡ Now.gave v → turn c v ≢ Turn.halts Verdict.stuck
+pub typed-unstuck : {P : Program} {c : Config} → IsTypedIn P c →
+    (v : Value) → c.now ≡ Now.gave v → turn c v ≢ Turn.halts Verdict.stuck
 typed-unstuck {c = c} t v e = let k : CodeKeepsTypes t.env t.ids = keeps t in k.never_stuck UnitTy c v t.typed e
 
 pub typed-runs : {P : Program} {c : Config} → IsTypedIn P c → (more n : ℕ) → (r : Seen) × Runs P more n c r
@@ -73,7 +77,8 @@ any-typed t input =
       beside = record { now = b.now; waiting = b.waiting; input = refl; events = b.events; tapes = b.tapes };
     }
 
-pub typed-over : {P : Program} {c : Config} → IsTypedIn P c → (input : List ℕ) → IsTypedIn P (record c { input = input })
+pub typed-over : {P : Program} {c : Config} → IsTypedIn P c →
+    (input : List ℕ) → IsTypedIn P (record c { input = input })
 typed-over {c = c} t input = again t (record c { input = input }) (any-typed t.typed input)
 
 -- ---- a run counts on

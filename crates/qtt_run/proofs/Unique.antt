@@ -24,11 +24,13 @@ module _ (C : Program) where
       subst (λ r. (b : Advances C more r k) → (h ≡ k) × (a.made ≡ b.made)) (same-state e d)
       (λ b. let u = halts-are-unique C more s h k a b in (u.0, u.1)) b
 
-  same-turn : (c : Config) {v u : Value} {o p : Turn} → c.now ≡ Now.gave v → c.now ≡ Now.gave u → turn c v ≡ o → turn c u ≡ p → o ≡ p
+  same-turn : (c : Config) {v u : Value} {o p : Turn} → c.now ≡ Now.gave v → c.now ≡ Now.gave u → turn c v ≡ o →
+      turn c u ≡ p → o ≡ p
   same-turn c e d a b = sym a ∙ ap (turn c) (same-value e d) ∙ b
 
   one : {more n : ℕ} {c : Config} {r : Seen} → Runs C more n c r → (s : Seen) → Runs C more n c s → r ≡ s
-  one {n = n} {c = c} (Runs.spends e a) s (Runs.spends d b) = ap (λ m. seen Verdict.running (n + m) c) (same-halt e d a b).1
+  one {n = n} {c = c} (Runs.spends e a) s (Runs.spends d b) =
+      ap (λ m. seen Verdict.running (n + m) c) (same-halt e d a b).1
   one (Runs.spends e a) s (Runs.traps d b) = absurd (cc ((same-halt e d a b).0))
   one (Runs.spends e a) s (Runs.gives d b p x) = absurd (cc ((same-halt e d a b).0))
   one (Runs.spends e a) s (Runs.halts d b) = absurd (cc (sym e ∙ d))

@@ -56,7 +56,8 @@ filled-more : (Γ : Ctx) (Δ : Slots) (b : Mult × Term) (s : Slot) → Fills b.
 filled-more Γ Δ b s h g zero i = h
 filled-more Γ Δ b s h g (suc n) i = g n i
 
-filled-ext : (Θ : Tele) (ss : List Slot) (Γ : Ctx) (Δ : Slots) → FillAll Θ ss → Filled Γ Δ → Filled (ext Γ Θ) (extend Δ ss)
+filled-ext : (Θ : Tele) (ss : List Slot) (Γ : Ctx) (Δ : Slots) → FillAll Θ ss → Filled Γ Δ →
+    Filled (ext Γ Θ) (extend Δ ss)
 filled-ext [] [] Γ Δ h g = g
 filled-ext [] (s ∷ ss) Γ Δ h g = absurd h
 filled-ext (b ∷ Θ) [] Γ Δ h g = absurd h
@@ -72,13 +73,15 @@ StayAll ns [] (f ∷ fs) = Unit {0}
 StayAll ns (j ∷ js) (None ∷ fs) = StayAll (rest ns) js fs
 StayAll ns (j ∷ js) (Some ss ∷ fs) = Stays j (first ns) ss × StayAll (rest ns) js fs
 
-args-stay : {Θ : Tele} {σ : ℕ → Term} {ts : Terms} {js : List Judged} (ns : List ℕ) → Args Θ σ ts js → StayAll ns js (arguments (mults Θ))
+args-stay : {Θ : Tele} {σ : ℕ → Term} {ts : Terms} {js : List Judged} (ns : List ℕ) → Args Θ σ ts js →
+    StayAll ns js (arguments (mults Θ))
 args-stay ns Args.none = tt
 args-stay ns (Args.more {q = 𝟘} a) = args-stay (rest ns) a
 args-stay ns (Args.more {q = 𝟙} a) = ((tt, λ e. tt), args-stay (rest ns) a)
 args-stay ns (Args.more {q = ω} a) = ((tt, λ e. tt), args-stay (rest ns) a)
 
-params-stay : {Ξ Θ : Tele} {σ : ℕ → Term} {ts : Terms} {js : List Judged} {S R : Term} (ns : List ℕ) → ParamsThenArgs Ξ Θ σ ts js S R →
+params-stay : {Ξ Θ : Tele} {σ : ℕ → Term} {ts : Terms} {js : List Judged} {S R : Term} (ns : List ℕ) →
+    ParamsThenArgs Ξ Θ σ ts js S R →
     StayAll ns js (without (length Θ) (arguments (mults Ξ)))
 params-stay ns (ParamsThenArgs.param a) = params-stay (rest ns) a
 params-stay ns (ParamsThenArgs.done a) = args-stay ns a
@@ -89,21 +92,25 @@ con-fields f k m [] n c h = elim h [ ]
 con-fields f k m (d ∷ ds) zero c IsCon.here = refl
 con-fields f k m (d ∷ ds) (suc n) c (IsCon.there h) = con-fields f k (suc m) ds n c h
 
-branches-stay : (E : Env) (f : GlobalId) (q : Mult) {σ : ℕ → Term} {P : Term} (k m : ℕ) (ds : List Constructor) {ns : List ℕ} {ts : Terms}
+branches-stay : (E : Env) (f : GlobalId) (q : Mult) {σ : ℕ → Term} {P : Term} (k m : ℕ)
+    (ds : List Constructor) {ns : List ℕ} {ts : Terms}
     {js : List Judged} {R : Term} →
     Usable Part.run q → Branches (fam_at E f) q σ P (con_sigs f k m ds) ns ts js R → StayAll ns js (branches q ds ns)
 branches-stay E f q k m [] used (Branches.scrutinee is e) = ((used, λ e. tt), tt)
 branches-stay E f q {σ} k m (d ∷ ds) used (Branches.each {n = n} e b) =
     ((tt, fields-fill q σ d.fields n), branches-stay E f q k (suc m) ds used b)
 
-cases-stay : (E : Env) (f : GlobalId) (q : Mult) {Θ : Tele} {σ : ℕ → Term} {k m : ℕ} {ns : List ℕ} {ts : Terms} {js : List Judged}
+cases-stay : (E : Env) (f : GlobalId) (q : Mult) {Θ : Tele} {σ : ℕ → Term} {k m : ℕ} {ns : List ℕ} {ts : Terms}
+    {js : List Judged}
     {R : Term} →
     Usable Part.run q → Cases (fam_at E f) q Θ σ k m ns ts js R → StayAll (zeros k (m ∷ ns)) js
     (without k (None ∷ branches q (family_at E f).constructors ns))
 cases-stay E f q used (Cases.param a) = cases-stay E f q used a
-cases-stay E f q used (Cases.motive a) = branches-stay E f q (length (family_at E f).params) 0 (family_at E f).constructors used a
+cases-stay E f q used (Cases.motive a) =
+    branches-stay E f q (length (family_at E f).params) 0 (family_at E f).constructors used a
 
-rule-stays : {E : Env} {F : Form} {ts : Terms} {js : List Judged} {R : Term} {own : Use} → Rule E Part.run F ts js R own →
+rule-stays : {E : Env} {F : Form} {ts : Terms} {js : List Judged} {R : Term} {own : Use} →
+    Rule E Part.run F ts js R own →
     StayAll (binders F) js (fates E F)
 rule-stays Rule.sort = tt
 rule-stays Rule.pi = tt
@@ -121,11 +128,12 @@ rule-stays (Rule.named {n = Named.def d} there used a) = tt
 rule-stays (Rule.named {n = Named.lit l} there used a) = tt
 rule-stays (Rule.named {n = Named.prim_ty p} there used a) = tt
 rule-stays (Rule.named {n = Named.prim p} there used a) = args-stay [] a
-rule-stays (Rule.named {n = Named.act x} there used a) = args-stay [] a
+rule-stays (Rule.named {n = Named.act x k} there used a) = args-stay [] a
 rule-stays Rule.trap = tt
 rule-stays Rule.tape = tt
 
-rule-names : {E : Env} {F : Form} {ts : Terms} {js : List Judged} {R : Term} {own : Use} → Rule E Part.run F ts js R own → NamesNoZero E F
+rule-names : {E : Env} {F : Form} {ts : Terms} {js : List Judged} {R : Term} {own : Use} →
+    Rule E Part.run F ts js R own → NamesNoZero E F
 rule-names Rule.sort = tt
 rule-names Rule.pi = tt
 rule-names Rule.lam = tt
@@ -138,7 +146,7 @@ rule-names (Rule.named {n = Named.def d} there used a) = used
 rule-names (Rule.named {n = Named.lit l} there used a) = tt
 rule-names (Rule.named {n = Named.prim_ty p} there used a) = tt
 rule-names (Rule.named {n = Named.prim p} there used a) = tt
-rule-names (Rule.named {n = Named.act x} there used a) = tt
+rule-names (Rule.named {n = Named.act x k} there used a) = tt
 rule-names Rule.trap = tt
 rule-names Rule.tape = tt
 
@@ -148,14 +156,16 @@ run-under p 𝟙 e h = e
 run-under p ω e h = e
 
 mutual
-  clean : {E : Env} {p : Part} {Γ : Ctx} {t A : Term} {u : Use} → Has E p Γ t A u → p ≡ Part.run → (Δ : Slots) → Filled Γ Δ →
+  clean : {E : Env} {p : Part} {Γ : Ctx} {t A : Term} {u : Use} → Has E p Γ t A u → p ≡ Part.run →
+      (Δ : Slots) → Filled Γ Δ →
       NoErasedUse E Δ t
   clean {Γ = Γ} (Has.at_var {i = i} s m c f) e Δ h = h i s (subst (λ p. Usable p (mult_at Γ i)) e m)
   clean {E} (Has.at_node {F = F} {ts = ts} {js = js} {R = R} {own = own} r hs c f) e Δ h =
       let run : Rule E Part.run F ts js R own = subst (λ p. Rule E p F ts js R own) e r in
       (rule-names run, all-clean hs e Δ (fates E F) (rule-stays run) h)
 
-  all-clean : {E : Env} {p : Part} {Γ : Ctx} {ns : List ℕ} {ts : Terms} {js : List Judged} → HasAll E p Γ ns ts js → p ≡ Part.run →
+  all-clean : {E : Env} {p : Part} {Γ : Ctx} {ns : List ℕ} {ts : Terms} {js : List Judged} →
+      HasAll E p Γ ns ts js → p ≡ Part.run →
       (Δ : Slots) (fs : List Fate) → StayAll ns js fs → Filled Γ Δ → NoErasedUses E Δ fs ts
   all-clean HasAll.none e Δ fs s h = tt
   all-clean (HasAll.more n d f hs) e Δ [] s h = tt
@@ -172,4 +182,5 @@ pub typed-clean : (E : Env) (t A : Term) (u : Use) → Typed E Part.run [] t A u
 typed-clean E t A u h = has-clean (typed-has h)
 
 pub bodies-clean : (E : Env) → WellFormed E → Erasable E
-bodies-clean E w = record { equality = w.prims.equalities; bodies = λ d b used e. has-clean ((sound_of w).typed d b e Part.run used) }
+bodies-clean E w = record
+    { equality = w.prims.equalities; bodies = λ d b used e. has-clean ((sound_of w).typed d b e Part.run used) }

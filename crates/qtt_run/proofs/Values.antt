@@ -34,7 +34,8 @@ record Parts (P : Program) (F : Operator Abstraction) (ts : Leans) (u : FlatTerm
   is : u ≡ Tree.node (other F) components
   stand : AllStandFor P ts components
 
-parts : {P : Program} {F : Operator Abstraction} {ts : Leans} {u : FlatTerm} → IsOther F → StandsFor P (Tree.node F ts) u → Parts P F ts u
+parts : {P : Program} {F : Operator Abstraction} {ts : Leans} {u : FlatTerm} → IsOther F →
+    StandsFor P (Tree.node F ts) u → Parts P F ts u
 parts o (StandsFor.operator {us = us} i h) = record { components = us; is = refl; stand = h }
 parts o (StandsFor.closure a b c d e f g h) = absurd (subst IsOther (ap operator_at h) o)
 
@@ -63,13 +64,16 @@ is-action a us (Value.action b vs) e = (vs, cc e, cc e)
 is-action a us (Value.tape n) e = absurd (cc e)
 is-action a us Value.type e = absurd (cc e)
 
-pub literal-value : {P : Program} (l : Lit) (v : Value) → StandsFor P (Tree.node (Operator.lit l) ∅) (flat_value v) → v ≡ Value.literal l
+pub literal-value : {P : Program} (l : Lit) (v : Value) →
+    StandsFor P (Tree.node (Operator.lit l) ∅) (flat_value v) → v ≡ Value.literal l
 literal-value l v h = let p = parts tt h in is-literal l p.components v p.is
 
-pub tape-value : {P : Program} (n : ℕ) (v : Value) → StandsFor P (Tree.node (Operator.tape n) ∅) (flat_value v) → v ≡ Value.tape n
+pub tape-value : {P : Program} (n : ℕ) (v : Value) → StandsFor P (Tree.node (Operator.tape n) ∅) (flat_value v) →
+    v ≡ Value.tape n
 tape-value n v h = let p = parts tt h in is-tape n p.components v p.is
 
-pub action-value : {P : Program} (a : Action) (ts : Leans) (v : Value) → StandsFor P (Tree.node (Operator.act a) ts) (flat_value v) →
+pub action-value : {P : Program} (a : Action) (ts : Leans) (v : Value) →
+    StandsFor P (Tree.node (Operator.act a) ts) (flat_value v) →
     (vs : Values) × (v ≡ Value.action a vs) × AllStandFor P ts (flat_values vs)
 action-value {P} a ts v h =
     let p = parts tt h in
@@ -91,8 +95,9 @@ two-values t u Values.none h = elim h [ ]
 two-values t u (v ▹ vs) (AllStandFor.more h hs) = let p = one-value u vs hs in (v, p.0, ap (λ vs. v ▹ vs) p.1, h, p.2)
 
 -- ---- a value of an IO type is an action, whose parts that are not at 0 are values
-acts : {E : Env} (m : Io) {F : Form} {ts : Terms} → core.Value E (node F ts) → value_kind F ≡ Kind.primitive (PrimTy.io_of m) →
-    (a : Action) × (F ≡ Form.named (Named.act a)) × core.Values E (mults (act_signature a).arguments) ts
+acts : {E : Env} (m : Io) {F : Form} {ts : Terms} → core.Value E (node F ts) →
+    value_kind F ≡ Kind.primitive (PrimTy.io_of m) →
+    (a : Action) × (j : ℕ) × (F ≡ Form.named (Named.act a j)) × core.Values E (mults (act_signature a).arguments) ts
 acts m core.Value.sort e = absurd (cc e)
 acts m core.Value.pi e = absurd (cc e)
 acts m core.Value.fam e = absurd (cc e)
@@ -102,12 +107,12 @@ acts m (core.Value.lit {l = literal.Int z}) e = absurd (cc e)
 acts m (core.Value.lit {l = literal.Text s}) e = absurd (cc e)
 acts m core.Value.tape e = absurd (cc e)
 acts m (core.Value.con h) e = absurd (cc e)
-acts m (core.Value.act {a = a} h) e = (a, refl, h)
+acts m (core.Value.act {a = a} {k = j} h) e = (a, j, refl, h)
 
 pub action_value : {E : Env} → BodiesClosed E → {t A : Term} {m : Io} {u : Use} → Has E Part.run [] t (IoTy m A) u →
     full_step E t ≡ Outcome.value →
-    (a : Action) × (ts : Terms) × (t ≡ Act a ts) × core.Values E (mults (act_signature a).arguments) ts
+    (a : Action) × (j : ℕ) × (ts : Terms) × (t ≡ Act a j ts) × core.Values E (mults (act_signature a).arguments) ts
 action_value {E} bodies {t} {A} {m} h v =
     let (F, ts, e, k) = value_at bodies h v (stiff-prim_ty E (PrimTy.io_of m)) in
-    let (a, d, vs) = acts m (kept-value E (node F ts) (subst (λ t. full_step E t ≡ Outcome.value) e v)) k in
-    (a, ts, e ∙ ap (λ F. node F ts) d, vs)
+    let (a, j, d, vs) = acts m (kept-value E (node F ts) (subst (λ t. full_step E t ≡ Outcome.value) e v)) k in
+    (a, j, ts, e ∙ ap (λ F. node F ts) d, vs)

@@ -11,7 +11,8 @@ use Rattle.qtt_lower.specs.Source.{IsWholeForm, IsWhole, AreWhole, HasWholeBodie
 use Rattle.qtt_preserve.specs.Within.{Has, HasAll}
 use Rattle.qtt_preserve.proofs.Sound.{sound_of}
 
-rule-whole : {E : Env} {p : Part} {F : Form} {ts : Terms} {js : List Judged} {R : Term} {own : Use} → Rule E p F ts js R own →
+rule-whole : {E : Env} {p : Part} {F : Form} {ts : Terms} {js : List Judged} {R : Term} {own : Use} →
+    Rule E p F ts js R own →
     (IsTape F → ⊥) → IsWholeForm F ts
 rule-whole Rule.sort n = tt
 rule-whole Rule.pi n = tt
@@ -30,7 +31,8 @@ mutual
   has-whole (Has.at_var s m c f) n = tt
   has-whole {E} (Has.at_node {F = F} r hs c f) n = (rule-whole r n.0, all-whole hs (fates E F) n.1)
 
-  all-whole : {E : Env} {p : Part} {Γ : Ctx} {ns : List ℕ} {ts : Terms} {js : List Judged} → HasAll E p Γ ns ts js → (fs : List Fate) →
+  all-whole : {E : Env} {p : Part} {Γ : Ctx} {ns : List ℕ} {ts : Terms} {js : List Judged} →
+      HasAll E p Γ ns ts js → (fs : List Fate) →
       NoTapes ts → AreWhole E fs ts
   all-whole HasAll.none fs n = tt
   all-whole (HasAll.more e d f hs) [] n = tt
@@ -43,4 +45,5 @@ body-no_tape None b w e = absurd (none≢some e)
 body-no_tape (Some D) b w e = (w D refl).no_tape b e
 
 pub bodies-whole : (E : Env) → WellFormed E → HasWholeBodies E
-bodies-whole E w d b used e = has-whole ((sound_of w).typed d b e Part.run used) (body-no_tape (E.definition d) b (w.definitions d) e)
+bodies-whole E w d b used e =
+    has-whole ((sound_of w).typed d b e Part.run used) (body-no_tape (E.definition d) b (w.definitions d) e)

@@ -28,7 +28,8 @@ pub record Beside (E : Env) (ds : List GlobalId) (f : full.Config) (c : Config) 
   pub events : f.events ≡ c.events
   pub tapes : f.tapes ≡ c.tapes
 
--- a configuration of code that stands beside a typed one, in which each open tape is used exactly once; it ends in an IO R
+-- a configuration of code that stands beside a typed one, in which each open tape is used exactly once; it ends
+-- in an IO R
 pub record IsTyped (E : Env) (ds : List GlobalId) (R : Term) (c : Config) : Type 0 where
   pub full : full.Config
   pub configured : Configured E R full

@@ -41,7 +41,8 @@ evaluated E (suc more) n t = continued n t (full_step E t) (evaluated E more (su
 
 -- the machine ends so too, after as many ticks as steps; it is never stuck
 abbrev pub Answers : Env → List GlobalId → ℕ → State → ℕ → Ending → Type 0
-Answers E ds bound s n (Ending.value t) = (v : Value) × IsValueOf E ds t v × HaltsAfter (code E ds) bound s n (Halt.done v)
+Answers E ds bound s n (Ending.value t) =
+    (v : Value) × IsValueOf E ds t v × HaltsAfter (code E ds) bound s n (Halt.done v)
 Answers E ds bound s n (Ending.trapped k) = HaltsAfter (code E ds) bound s n (Halt.trapped k)
 Answers E ds bound s n Ending.going = HaltsAfter (code E ds) bound s n Halt.spent
 Answers E ds bound s n Ending.stuck = ⊥

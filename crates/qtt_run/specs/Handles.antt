@@ -1,5 +1,5 @@
 -- The handles of the tapes that a run opened.
-use Rattle.std.specs.Prelude.{◌≡◌, ℕ, Bool, List, ◌++◌, length, map, Option, option_map, IfSome}
+use Rattle.std.specs.Prelude.{◌≡◌, ℕ, Bool, List, ◌∷◌, ◌++◌, length, map, Option, option_map, IfSome}
 use Rattle.std.specs.List.{range_with_len}
 use Rattle.qtt_prims.specs.Tapes.{Taped}
 use Rattle.qtt_edge.specs.Tapes.{IsOpenAt, KeepsOthers}
@@ -20,8 +20,8 @@ number_of handle = handle.number
 abbrev pub NumberedByPlace : List Handle → Type 0
 NumberedByPlace handles = map number_of handles ≡ range_with_len 0 (length handles)
 
--- there is a handle for each of these tapes, open where the tape is; where the outside tells its tapes they are these, and the number of
--- each is its place
+-- there is a handle for each of these tapes, open where the tape is; where the outside tells its tapes they are
+-- these, and the number of each is its place
 pub record Mirrors (handles : Handles) (told : Option (List Taped)) (tapes : List Taped) : Type 0 where
   pub same : IfSome told (λ all. all ≡ tapes)
   pub flags : map flag_of handles.all.items ≡ map is_open tapes
@@ -31,10 +31,10 @@ pub record Mirrors (handles : Handles) (told : Option (List Taped)) (tapes : Lis
 abbrev pub HasOpen : Handles → Option (List Taped) → ℕ → Type 0
 HasOpen handles told place = (tapes : List Taped) × Mirrors handles told tapes × IsOpenAt place tapes
 
--- the first of the closes of all open tapes were done, and then one tape was changed perhaps
+-- the first of the closes of all open tapes were done, and then one failed, so that its tape may be another
 pub record ClosesFront (tapes : List Taped) (before after : Option (List Taped)) : Type 0 where
   pub closed : List Event
+  pub place : ℕ
   pub later : List Event
-  pub front : closes_from 0 tapes ≡ closed ++ later
-  pub tape : ℕ
-  pub others : KeepsOthers tape (option_map (λ _. tape_list tapes closed) before) after
+  pub front : closes_from 0 tapes ≡ closed ++ Event.closed_tape place ∷ later
+  pub others : KeepsOthers place (option_map (λ _. tape_list tapes closed) before) after

@@ -1,14 +1,12 @@
 -- What running a program answers, and what it does to its output and its tapes.
-use Rattle.std.specs.Prelude.{◌≡◌, ℕ, ◌≤◌, List, [], ◌++◌, take, Option, Some, None, option_map, Result, Ok, Err, IfSome}
+use Rattle.std.specs.Prelude.{◌≡◌, ℕ, ◌≤◌, List, Option, Some, option_map, Result, Ok, Err, IfSome}
 use Rattle.qtt_base.specs.declared.place.GlobalId.{GlobalId}
 use Rattle.qtt_base.specs.declared.errors.MemoryError.{MemoryError}
-use Rattle.qtt_prims.specs.Tapes.{Taped}
 use Rattle.qtt_edge.specs.Sink.{Adds}
-use Rattle.qtt_edge.specs.Tapes.{KeepsOthers}
 use Rattle.qtt_term.specs.Signature.{Env}
 use Rattle.qtt_term.specs.Environment.{WellFormed, Complete, IsMain}
 use Rattle.qtt_term.specs.TapeDiscipline.{ClosedOnce}
-use Rattle.qtt_term.specs.FullRun.{Event, Verdict, Run, full, text_of, tape_list}
+use Rattle.qtt_term.specs.FullRun.{Verdict, Run, full, text_of}
 use Rattle.qtt_lower.specs.declared.program.Compiled.{Compiled}
 use Rattle.qtt_lower.specs.Programs.{Base, base_id}
 use Rattle.qtt_lower.specs.Whole.{compiled_program, compiled_bases}
@@ -18,6 +16,7 @@ use Rattle.qtt_run.specs.declared.program.RunHow.{RunHow}
 use Rattle.qtt_run.specs.declared.program.RunHow.TheVariants as how
 use Rattle.qtt_run.specs.declared.program.RunEnd.{RunEnd}
 use Rattle.qtt_run.specs.Code.{Lists, code, first_block}
+use Rattle.qtt_run.specs.Front.{Failure, Outside, DidFront}
 
 abbrev pub block_of : Base → ℕ
 block_of b = b.block
@@ -32,21 +31,18 @@ pub record IsCodeOfMain (c : Compiled) (main : GlobalId) (E : Env) : Type 0 wher
   pub program : compiled_program c ≡ code E ids
   pub begins : option_map block_of (with_id base_id main (compiled_bases c)) ≡ Some (first_block E ids main)
 
--- the verdict that an answer tells; a device's fault tells none
-abbrev pub verdict : RunHow → Option Verdict
-verdict how.Ended = Some Verdict.ended
-verdict (how.Trapped k) = Some (Verdict.trapped (cause k))
-verdict how.Bound = Some Verdict.running
-verdict how.SourceFault = None
-verdict how.SinkFault = None
-verdict how.TapeFault = None
+-- what an answer tells: the verdict of the run, or what failed
+pub data Outcome : Type 0 where
+  came : Verdict → Outcome
+  broke : Failure → Outcome
 
--- what the output and the tapes hold before a run and behind it, where they tell it
-pub record Outside : Type 0 where
-  pub output_before : Option (List ℕ)
-  pub output : Option (List ℕ)
-  pub tapes_before : Option (List Taped)
-  pub tapes : Option (List Taped)
+abbrev pub outcome : RunHow → Outcome
+outcome how.Ended = Outcome.came Verdict.ended
+outcome (how.Trapped k) = Outcome.came (Verdict.trapped (cause k))
+outcome how.Bound = Outcome.came Verdict.running
+outcome how.SourceFault = Outcome.broke Failure.source
+outcome how.SinkFault = Outcome.broke Failure.sink
+outcome how.TapeFault = Outcome.broke Failure.tape
 
 -- the run is over: it goes on behind no bound
 abbrev pub IsOver : Verdict → Type 0
@@ -55,8 +51,9 @@ IsOver (Verdict.trapped k) = Unit {0}
 IsOver Verdict.stuck = ⊥
 IsOver Verdict.running = ⊥
 
--- all was done that a full run does: this is its verdict and the number of its contractions, the output gained the lines that it puts, and
--- the tapes are those that it opened, each closed exactly once if the run ended or trapped
+-- all was done that a full run does: this is its verdict and the number of its contractions, the output gained
+-- the lines that it puts, and the tapes are those that it opened, each closed exactly once if the run ended or
+-- trapped
 pub record DidAll (r : Run) (v : Verdict) (used : ℕ) (o : Outside) : Type 0 where
   pub verdict : r.verdict ≡ v
   pub count : r.count ≡ used
@@ -64,24 +61,15 @@ pub record DidAll (r : Run) (v : Verdict) (used : ℕ) (o : Outside) : Type 0 wh
   pub tapes : o.tapes ≡ option_map (λ _. r.last.tapes) o.tapes_before
   pub closed : IsOver v → ClosedOnce r.last.events
 
--- a front of what a full run does was done. The next event may be done in part: some bytes of its line are put, or its tape has changed
-pub record DidFront (r : Run) (o : Outside) : Type 0 where
-  pub events : List Event
-  pub later : List Event
-  pub front : r.last.events ≡ events ++ later
-  pub bytes : ℕ
-  pub output : Adds o.output_before o.output (text_of events ++ take bytes (text_of later))
-  pub tape : ℕ
-  pub tapes : KeepsOthers tape (option_map (λ _. tape_list [] events) o.tapes_before) o.tapes
-
-abbrev pub Did : Run → Option Verdict → ℕ → Outside → Type 0
-Did r (Some v) used o = DidAll r v used o
-Did r None used o = DidFront r o × (used ≤ r.count)
+-- where something failed, a front of the events of the full run was done, in no more contractions than it makes
+abbrev pub Did : Run → Outcome → ℕ → Outside → Type 0
+Did r (Outcome.came v) used o = DidAll r v used o
+Did r (Outcome.broke why) used o = DidFront r.last.events why o × (used ≤ r.count)
 
 -- what an answer tells of the outside, where this is the full run
 abbrev pub Answers : Run → Outside → Result RunEnd MemoryError → Type 0
-Answers r o (Ok end) = Did r (verdict end.how) end.used o
-Answers r o (Err e) = DidFront r o
+Answers r o (Ok end) = Did r (outcome end.how) end.used o
+Answers r o (Err e) = DidFront r.last.events Failure.memory o
 
 -- the full run over what the source gives; over a source that does not tell what it gives, over some input
 pub record RunsAsFull (bound : ℕ) (E : Env) (main : GlobalId) (content : Option (List ℕ)) (o : Outside)

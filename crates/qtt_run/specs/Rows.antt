@@ -18,7 +18,8 @@ RunsSo bound E v n es ts =
 pub record CodeRows : Type 0 where
   pub handles_end : RunsSo default_steps handles Verdict.ended 14 (handle_events ++ Event.closed_tape 0 ∷ [])
       (tape_a false (codes "x" ∷ codes "y" ∷ []))
-  pub handles_in_thirteen : RunsSo 13 handles Verdict.running 13 handle_events (tape_a true (codes "x" ∷ codes "y" ∷ []))
+  pub handles_in_thirteen : RunsSo 13 handles Verdict.running 13 handle_events
+      (tape_a true (codes "x" ∷ codes "y" ∷ []))
   -- a run that traps closes its open tapes
   pub trapping_in_five : RunsSo 5 trapping (Verdict.trapped Cause.division_by_zero) 5
       (Event.opened (codes "a") ∷ Event.closed_tape 0 ∷ []) (tape_a false [])

@@ -1,11 +1,11 @@
--- A run under way: what it began from, what stands now, and that whatever it comes to from here it comes to from the beginning.
-use Rattle.std.specs.Prelude.{◌≡◌, ◌↔◌, ℕ, suc, ◌+◌, ◌≤◌, List, [], ◌++◌, length, take, reverse}
-use Rattle.std.specs.Prelude.{Option, Some, option_map, IfSome, Result, Ok, Err}
+-- A run under way: what it began from, what stands now, and that whatever it comes to from here it comes to from
+-- the beginning.
+use Rattle.std.specs.Prelude.{◌≡◌, ◌↔◌, ℕ, suc, ◌+◌, ◌≤◌, List, [], ◌++◌, length, reverse}
+use Rattle.std.specs.Prelude.{Option, option_map, IfSome, Result, Ok, Err}
 use Rattle.qtt_base.specs.declared.place.GlobalId.{GlobalId}
 use Rattle.qtt_base.specs.declared.errors.MemoryError.{MemoryError}
 use Rattle.qtt_prims.specs.Tapes.{Taped}
 use Rattle.qtt_edge.specs.Sink.{Adds}
-use Rattle.qtt_edge.specs.Tapes.{KeepsOthers}
 use Rattle.qtt_term.specs.Signature.{Env, UnitTy}
 use Rattle.qtt_term.specs.Environment.{WellFormed, Complete}
 use Rattle.qtt_term.specs.Term.{Io}
@@ -36,9 +36,11 @@ use Rattle.qtt_run.specs.Beside.{IsTyped}
 use Rattle.qtt_run.specs.Handles.{Mirrors}
 use Rattle.qtt_run.specs.Deed.{gives}
 use Rattle.qtt_run.specs.Lines.{LeftOver}
-use Rattle.qtt_run.specs.Program.{verdict}
+use Rattle.qtt_run.specs.Front.{Failure, Outside, DidFront}
+use Rattle.qtt_run.specs.Program.{Outcome, outcome}
 
--- what a run begins from: a block of a program whose jumps go to later places, a bound, and what the outside tells then
+-- what a run begins from: a block of a program whose jumps go to later places, a bound, and what the outside
+-- tells then
 pub record Origin : Type 0 where
   pub program : Program
   pub jumps : AllJumpForward program
@@ -65,9 +67,10 @@ pub record IsTypedIn (P : Program) (c : Config) : Type 0 where
   pub program : P ≡ code env ids
   pub typed : IsTyped env ids UnitTy c
 
--- a run under way, which waits so, may make so many contractions more, may have these inputs left, and has these handles; this is what the
--- outside tells of its output and its tapes
-pub record Underway (o : Origin) (now : Now) (waiting : List Value) (left : ℕ) (Rests : List ℕ → Type 0) (handles : Handles)
+-- a run under way, which waits so, may make so many contractions more, may have these inputs left, and has these
+-- handles; this is what the outside tells of its output and its tapes
+pub record Underway (o : Origin) (now : Now) (waiting : List Value) (left : ℕ) (Rests : List ℕ → Type 0)
+    (handles : Handles)
     (output : Option (List ℕ)) (tapes : Option (List Taped)) : Type 0 where
   pub events : List Event
   pub opened : List Taped
@@ -75,7 +78,8 @@ pub record Underway (o : Origin) (now : Now) (waiting : List Value) (left : ℕ)
   pub typed : (input : List ℕ) →
       IsTypedIn o.program (record { now = now; waiting = waiting; input = input; events = events; tapes = opened })
   pub way : (input : List ℕ) → Rests input → (r : Seen) →
-      Runs o.program left made (record { now = now; waiting = waiting; input = input; events = events; tapes = opened }) r → Began o r
+      Runs o.program left made (record
+      { now = now; waiting = waiting; input = input; events = events; tapes = opened }) r → Began o r
   pub some : (input : List ℕ) × Rests input
   pub counted : made + left ≡ o.bound
   pub few : length opened ≤ made
@@ -92,7 +96,8 @@ abbrev pub StandsAt : Program → Now → Machine → Type 0
 StandsAt P (Now.computing s) m = (machine.program m ≡ P) × (machine.state m ≡ s) × machine.IsReady m
 StandsAt P (Now.gave v) m = machine.program m ≡ P
 
-pub record IsUnderway (o : Origin) (now : Now) (m : Running) (input output : Option (List ℕ)) (tapes : Option (List Taped)) : Type 0 where
+pub record IsUnderway (o : Origin) (now : Now) (m : Running) (input output : Option (List ℕ))
+    (tapes : Option (List Taped)) : Type 0 where
   pub run : Underway o now (waiting_of m) m.left (LeftOver m.lines input) m.handles output tapes
   pub stands : StandsAt o.program now m.machine
 
@@ -100,28 +105,28 @@ abbrev pub Computes : Origin → Running → Option (List ℕ) → Option (List 
 Computes o m input output tapes = (s : State) × IsUnderway o (Now.computing s) m input output tapes
 
 -- all of the run was done, which may make so many contractions more
-pub record Finished (o : Origin) (h : RunHow) (left : ℕ) (output : Option (List ℕ)) (tapes : Option (List Taped)) : Type 0 where
+pub record Finished (o : Origin) (h : RunHow) (left : ℕ) (output : Option (List ℕ))
+    (tapes : Option (List Taped)) : Type 0 where
   pub seen : Seen
   pub began : Began o seen
-  pub verdict : verdict h ≡ Some seen.verdict
+  pub verdict : outcome h ≡ Outcome.came seen.verdict
   pub counted : seen.count + left ≡ o.bound
   pub puts : Adds o.output output (text_of seen.events)
   pub tells : tapes ≡ option_map (λ _. seen.tapes) o.tapes
 
--- a front of the run was done
-pub record Broken (o : Origin) (left : ℕ) (output : Option (List ℕ)) (tapes : Option (List Taped)) : Type 0 where
+-- what the outside tells now, beside what it told when the run began
+abbrev pub outside : Origin → Option (List ℕ) → Option (List Taped) → Outside
+outside o output tapes = record { output_before = o.output; output = output; tapes_before = o.tapes; tapes = tapes }
+
+-- a front of the run was done, and then this failed
+pub record Broken (o : Origin) (why : Failure) (left : ℕ) (output : Option (List ℕ))
+    (tapes : Option (List Taped)) : Type 0 where
   pub seen : Seen
   pub began : Began o seen
-  pub events : List Event
-  pub later : List Event
-  pub front : seen.events ≡ events ++ later
+  pub did : DidFront seen.events why (outside o output tapes)
   pub made : ℕ
   pub counted : made + left ≡ o.bound
   pub reached : made ≤ seen.count
-  pub bytes : ℕ
-  pub puts : Adds o.output output (text_of events ++ take bytes (text_of later))
-  pub tape : ℕ
-  pub tells : KeepsOthers tape (option_map (λ _. tape_list [] events) o.tapes) tapes
 
 -- the run traps, and its open tapes are still to be closed
 pub record Trapping (o : Origin) (k : Cause) (left : ℕ) (handles : Handles) (output : Option (List ℕ))
@@ -145,39 +150,43 @@ pub record Trapping (o : Origin) (k : Cause) (left : ℕ) (handles : Handles) (o
   pub mirrors : Mirrors handles tapes opened
 
 -- ---- what stands behind a step of the run
-abbrev pub AfterHalt : Origin → Running → Option (List ℕ) → Option (List ℕ) → Option (List Taped) → Result Halt MemoryError → Type 0
+abbrev pub AfterHalt : Origin → Running → Option (List ℕ) → Option (List ℕ) → Option (List Taped) →
+    Result Halt MemoryError → Type 0
 AfterHalt o m input output tapes (Ok (halted.Done v)) = IsUnderway o (Now.gave (value v)) m input output tapes
 AfterHalt o m input output tapes (Ok (halted.Trap k)) = Trapping o (cause k) m.left m.handles output tapes
 AfterHalt o m input output tapes (Ok halted.Spent) = Finished o how.Bound m.left output tapes
-AfterHalt o m input output tapes (Err e) = Broken o m.left output tapes
+AfterHalt o m input output tapes (Err e) = Broken o Failure.memory m.left output tapes
 
-abbrev pub AfterTurn : Origin → Running → Option (List ℕ) → Option (List ℕ) → Option (List Taped) → code_turn.Turn → Type 0
+abbrev pub AfterTurn : Origin → Running → Option (List ℕ) → Option (List ℕ) → Option (List Taped) →
+    code_turn.Turn → Type 0
 AfterTurn o m input output tapes (turn.Gives v) = IsUnderway o (Now.gave (value v)) m input output tapes
 AfterTurn o m input output tapes turn.Computes = Computes o m input output tapes
 AfterTurn o m input output tapes (turn.Halts h) = Finished o h m.left output tapes
 
-abbrev pub Turned : Origin → Running → Option (List ℕ) → Option (List ℕ) → Option (List Taped) → Result code_turn.Turn Stop → Type 0
-Turned o m input output tapes (Ok t) = AfterTurn o m input output tapes t
-Turned o m input output tapes (Err e) = Broken o m.left output tapes
+-- by what an error says that failed
+abbrev pub Turned : {E : Type 0} → (E → Failure) → Origin → Running → Option (List ℕ) → Option (List ℕ) →
+    Option (List Taped) → Result code_turn.Turn E → Type 0
+Turned why o m input output tapes (Ok t) = AfterTurn o m input output tapes t
+Turned why o m input output tapes (Err e) = Broken o (why e) m.left output tapes
 
-abbrev pub Given : Origin → Running → Option (List ℕ) → Option (List ℕ) → Option (List Taped) → Result code_turn.Turn MemoryError → Type 0
-Given o m input output tapes (Ok t) = AfterTurn o m input output tapes t
-Given o m input output tapes (Err e) = Broken o m.left output tapes
-
-abbrev pub Came : Origin → ℕ → Option (List ℕ) → Option (List Taped) → Result RunHow Stop → Type 0
-Came o left output tapes (Ok h) = Finished o h left output tapes
-Came o left output tapes (Err e) = Broken o left output tapes
+abbrev pub Came : {E : Type 0} → (E → Failure) → Origin → ℕ → Option (List ℕ) → Option (List Taped) → Result RunHow E →
+    Type 0
+Came why o left output tapes (Ok h) = Finished o h left output tapes
+Came why o left output tapes (Err e) = Broken o (why e) left output tapes
 
 -- one contraction is made, and is still to be counted: then the run stands so
-pub record Ahead (o : Origin) (now : Now) (m : Running) (input output : Option (List ℕ)) (tapes : Option (List Taped)) : Type 0 where
-  pub next : (left : ℕ) → m.left ≡ suc left → Underway o now (waiting_of m) left (LeftOver m.lines input) m.handles output tapes
+pub record Ahead (o : Origin) (now : Now) (m : Running) (input output : Option (List ℕ))
+    (tapes : Option (List Taped)) : Type 0 where
+  pub next : (left : ℕ) → m.left ≡ suc left →
+      Underway o now (waiting_of m) left (LeftOver m.lines input) m.handles output tapes
   pub program : machine.program m.machine ≡ o.program
 
 -- a line was read, which one more contraction gives
-pub record GivesNext (o : Origin) (line : Value) (m : Running) (input output : Option (List ℕ)) (tapes : Option (List Taped)) : Type 0 where
+pub record GivesNext (o : Origin) (line : Value) (m : Running) (input output : Option (List ℕ))
+    (tapes : Option (List Taped)) : Type 0 where
   pub ahead : Ahead o (Now.gave (gives Io.io line)) m input output tapes
   pub bound : m.left ≡ 0 → Finished o how.Bound m.left output tapes
-  pub broken : Broken o m.left output tapes
+  pub broken : Broken o Failure.memory m.left output tapes
 
 -- ---- where a run starts
 abbrev pub StartsAt : Program → ℕ → Running → Type 0

@@ -56,7 +56,8 @@ pub(crate) fn asked<'a>(given: Val<'a>) -> Deed<'a>
 /// The kind of an action, and its parts.
 fn as_action<'a>(given: Val<'a>) -> (ActKind, &'a [Val<'a>])
     requires { IsPerformed (value_of given) }
-    ensures { value_of given.entry ≡ Value.action (action result.0) (side_by_side (values result.1.now)) }
+    ensures { value_of given.entry ≡ Value.action (action result.0)
+        (side_by_side (values result.1.now)) }
 {
     let Val::Act(kind, parts) = given else {
         unreachable!()

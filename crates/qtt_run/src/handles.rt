@@ -1,18 +1,18 @@
 //! The tapes that a run opened.
 
-ghost use Rattle.std.specs.Prelude.{ℕ, List, [], ◌∷◌, ◌++◌, ◌≡◌, ◌<◌, ◌-◌, ◌^◌, length, Option, option_map, IfOk, OnOk, OnErr, IsErrOf};
+ghost use Rattle.std.specs.Prelude.{List, [], ◌∷◌, ◌++◌, ◌≡◌, ◌<◌, ◌-◌, ◌^◌, length, Option, option_map, IfOk, OnOk, OnErr, IsErrOf};
 ghost use Rattle.std.specs.Option.{ForSome};
 ghost use Rattle.qtt_prims.specs.Tapes.{Taped, new_tape, with_line, shut, changed};
 ghost use Rattle.qtt_edge.specs.Counts.{Counts};
-ghost use Rattle.qtt_edge.specs.Tapes.{HasRoom, IsOpenAt, Opens, AddsLine, Closes, KeepsOthers};
+ghost use Rattle.qtt_edge.specs.Tapes.{HasRoom, Opens, AddsLine, Closes, KeepsOthers};
 ghost use Rattle.qtt_term.specs.FullRun.{all_shut};
 ghost use Rattle.qtt_run.specs.Handles.{Mirrors, HasOpen, ClosesFront};
 
-use crate::stop::Stop;
-use qtt_edge::Tapes;
+use qtt_edge::{TapeError, Tapes};
 use std::alloc::Global;
 
-/// A tape that was opened: the number that the tapes of the outside have for it, and whether it is open still.
+/// A tape that was opened: the number that the tapes of the outside have for it, and whether it
+/// is open still.
 #[derive(Clone, Copy)]
 pub(crate) struct Handle {
     number: u32,
@@ -27,7 +27,8 @@ pub(crate) struct Handles {
 
 impl Handles {
     pub(crate) fn new(alloc: Global) -> Handles
-        ensures { (told : Option (List Taped)) → ForSome told (λ all. all ≡ []) → Mirrors result told [] }
+        ensures { (told : Option (List Taped)) → ForSome told (λ all. all ≡ []) →
+            Mirrors result told [] }
     {
         Handles {
             all: Vec::new(alloc),
@@ -35,17 +36,17 @@ impl Handles {
     }
 
     /// Opens a tape, and gives its place.
-    pub(crate) fn open<T: Tapes>(&mut self, tapes: &mut T, name: &str) -> Result<u32, Stop>
+    pub(crate) fn open<T: Tapes>(&mut self, tapes: &mut T, name: &str) -> Result<u32, TapeError>
         requires few { length self.old.all.items < 2 ^ 32 - 1 }
         requires room { HasRoom (T.tapes tapes.old) }
-        ensures place { (ts : List Taped) → Mirrors self.old (T.tapes tapes.old) ts → IfOk result (λ place. place ≡ length ts) }
+        ensures place { (ts : List Taped) → Mirrors self.old (T.tapes tapes.old) ts →
+            IfOk result (λ place. place ≡ length ts) }
         ensures mirrors { (ts : List Taped) → Mirrors self.old (T.tapes tapes.old) ts →
             OnOk result (Mirrors self.new (T.tapes tapes.new) (ts ++ new_tape name.now ∷ [])) }
         ensures ok { OnOk result (Opens (T.tapes tapes.old) (T.tapes tapes.new) name.now) }
         ensures err { OnErr result (T.tapes tapes.new ≡ T.tapes tapes.old) }
-        ensures no_source { IsErrOf result Stop.Source → ⊥ }
-        ensures no_sink { IsErrOf result Stop.Sink → ⊥ }
-        ensures failed { Counts (T.faults tapes.old) (T.faults tapes.new) (IsErrOf result Stop.Tape) }
+        ensures failed { Counts (T.faults tapes.old) (T.faults tapes.new)
+            (IsErrOf result TapeError.Failed) }
     {
         self.all.reserve(1)?;
         let place = self.all.len() as u32;
@@ -58,30 +59,34 @@ impl Handles {
     }
 
     /// Adds a line to an open tape.
-    pub(crate) fn write<T: Tapes>(&self, tapes: &mut T, place: u32, line: &str) -> Result<(), Stop>
+    pub(crate) fn write<T: Tapes>(
+        &self,
+        tapes: &mut T,
+        place: u32,
+        line: &str,
+    ) -> Result<(), TapeError>
         requires { HasOpen self.now (T.tapes tapes.old) place }
         ensures mirrors { (ts : List Taped) → Mirrors self.now (T.tapes tapes.old) ts →
-            OnOk result (Mirrors self.now (T.tapes tapes.new) (changed place (with_line line.now) ts)) }
+            OnOk result (Mirrors self.now (T.tapes tapes.new)
+            (changed place (with_line line.now) ts)) }
         ensures ok { OnOk result (AddsLine (T.tapes tapes.old) (T.tapes tapes.new) place line.now) }
         ensures err { OnErr result (KeepsOthers place (T.tapes tapes.old) (T.tapes tapes.new)) }
-        ensures no_source { IsErrOf result Stop.Source → ⊥ }
-        ensures no_sink { IsErrOf result Stop.Sink → ⊥ }
-        ensures failed { Counts (T.faults tapes.old) (T.faults tapes.new) (IsErrOf result Stop.Tape) }
+        ensures failed { Counts (T.faults tapes.old) (T.faults tapes.new)
+            (IsErrOf result TapeError.Failed) }
     {
         tapes.append(self.all[place as usize].number, line)?;
         Ok(())
     }
 
     /// Closes an open tape.
-    pub(crate) fn close<T: Tapes>(&mut self, tapes: &mut T, place: u32) -> Result<(), Stop>
+    pub(crate) fn close<T: Tapes>(&mut self, tapes: &mut T, place: u32) -> Result<(), TapeError>
         requires { HasOpen self.old (T.tapes tapes.old) place }
         ensures mirrors { (ts : List Taped) → Mirrors self.old (T.tapes tapes.old) ts →
             OnOk result (Mirrors self.new (T.tapes tapes.new) (changed place shut ts)) }
         ensures ok { OnOk result (Closes (T.tapes tapes.old) (T.tapes tapes.new) place) }
         ensures err { OnErr result (KeepsOthers place (T.tapes tapes.old) (T.tapes tapes.new)) }
-        ensures no_source { IsErrOf result Stop.Source → ⊥ }
-        ensures no_sink { IsErrOf result Stop.Sink → ⊥ }
-        ensures failed { Counts (T.faults tapes.old) (T.faults tapes.new) (IsErrOf result Stop.Tape) }
+        ensures failed { Counts (T.faults tapes.old) (T.faults tapes.new)
+            (IsErrOf result TapeError.Failed) }
     {
         let handle = &mut self.all[place as usize];
         tapes.close(handle.number)?;
@@ -90,7 +95,7 @@ impl Handles {
     }
 
     /// Closes the tapes that are open, in the order in which they were opened.
-    pub(crate) fn close_all<T: Tapes>(&mut self, tapes: &mut T) -> Result<(), Stop>
+    pub(crate) fn close_all<T: Tapes>(&mut self, tapes: &mut T) -> Result<(), TapeError>
         requires few { length self.old.all.items < 2 ^ 32 }
         requires mirrors { (ts : List Taped) × Mirrors self.old (T.tapes tapes.old) ts }
         ensures mirrors { (ts : List Taped) → Mirrors self.old (T.tapes tapes.old) ts →
@@ -99,9 +104,8 @@ impl Handles {
             OnOk result (T.tapes tapes.new ≡ option_map (λ _. all_shut ts) (T.tapes tapes.old)) }
         ensures err { (ts : List Taped) → Mirrors self.old (T.tapes tapes.old) ts →
             OnErr result (ClosesFront ts (T.tapes tapes.old) (T.tapes tapes.new)) }
-        ensures no_source { IsErrOf result Stop.Source → ⊥ }
-        ensures no_sink { IsErrOf result Stop.Sink → ⊥ }
-        ensures failed { Counts (T.faults tapes.old) (T.faults tapes.new) (IsErrOf result Stop.Tape) }
+        ensures failed { Counts (T.faults tapes.old) (T.faults tapes.new)
+            (IsErrOf result TapeError.Failed) }
     {
         'places: for place in 0..self.all.len() {
             if self.all[place].is_open {

@@ -4,9 +4,8 @@ ghost use Rattle.std.specs.Prelude.{◌≡◌, ◌↔◌, ℕ, List, Option, IfS
 ghost use Rattle.qtt_edge.specs.Counts.{Counts};
 ghost use Rattle.qtt_run.specs.Lines.{LeftOver, HasInput, Finds};
 
-use crate::stop::Stop;
 use qtt_base::MemoryError;
-use qtt_edge::{LineCutter, Next, Source};
+use qtt_edge::{LineCutter, LineError, Next, Source};
 use qtt_prims::Text;
 use std::alloc::Global;
 
@@ -29,7 +28,8 @@ pub(crate) enum Found {
 impl Lines {
     pub(crate) fn new(alloc: Global) -> Result<Lines, MemoryError>
         ensures { (content : Option (List ℕ)) (input : List ℕ) →
-            IfOk result (λ lines. LeftOver lines content input ↔ IfSome content (λ all. input ≡ all)) }
+            IfOk result (λ lines. LeftOver lines content input ↔ IfSome content
+            (λ all. input ≡ all)) }
     {
         Ok(Lines {
             cutter: LineCutter::new(alloc)?,
@@ -38,14 +38,15 @@ impl Lines {
     }
 
     /// Takes the next line.
-    pub(crate) fn next<S: Source>(&mut self, source: &mut S) -> Result<Found, Stop>
+    pub(crate) fn next<S: Source>(&mut self, source: &mut S) -> Result<Found, LineError>
         // Whatever input may be left now, some input was left before in which this was found.
         ensures finds { (rest : List ℕ) → LeftOver self.new (S.content source.new) rest →
-            IfOk result (λ found. (input : List ℕ) × LeftOver self.old (S.content source.old) input × Finds input rest found) }
-        ensures more { HasInput self.old (S.content source.old) → OnOk result (HasInput self.new (S.content source.new)) }
-        ensures no_sink { IsErrOf result Stop.Sink → ⊥ }
-        ensures no_tape { IsErrOf result Stop.Tape → ⊥ }
-        ensures failed { Counts (S.faults source.old) (S.faults source.new) (IsErrOf result Stop.Source) }
+            IfOk result (λ found. (input : List ℕ) × LeftOver self.old
+            (S.content source.old) input × Finds input rest found) }
+        ensures more { HasInput self.old (S.content source.old) →
+            OnOk result (HasInput self.new (S.content source.new)) }
+        ensures failed { Counts (S.faults source.old) (S.faults source.new)
+            (IsErrOf result LineError.Fault) }
     {
         if self.at_end {
             return Ok(Found::End);

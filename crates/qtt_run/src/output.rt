@@ -4,17 +4,16 @@ ghost use Rattle.std.specs.Prelude.{◌++◌, ◌∷◌, [], OnOk, OnErr, IsErrO
 ghost use Rattle.qtt_edge.specs.Counts.{Counts};
 ghost use Rattle.qtt_edge.specs.Sink.{Adds, AddsFront};
 
-use crate::stop::Stop;
-use qtt_edge::Sink;
+use qtt_edge::{Sink, SinkError};
 use std::alloc::Global;
 
 /// Puts a line and its byte 10, at once.
-pub(crate) fn put_line<O: Sink>(alloc: Global, out: &mut O, line: &str) -> Result<(), Stop>
+pub(crate) fn put_line<O: Sink>(alloc: Global, out: &mut O, line: &str) -> Result<(), SinkError>
     ensures ok { OnOk result (Adds (O.content out.old) (O.content out.new) (line.now ++ 10 ∷ [])) }
-    ensures err { OnErr result (AddsFront (O.content out.old) (O.content out.new) (line.now ++ 10 ∷ [])) }
-    ensures no_source { IsErrOf result Stop.Source → ⊥ }
-    ensures no_tape { IsErrOf result Stop.Tape → ⊥ }
-    ensures failed { Counts (O.faults out.old) (O.faults out.new) (IsErrOf result Stop.Sink) }
+    ensures err { OnErr result
+        (AddsFront (O.content out.old) (O.content out.new) (line.now ++ 10 ∷ [])) }
+    ensures failed { Counts (O.faults out.old) (O.faults out.new)
+        (IsErrOf result SinkError.Failed) }
 {
     let bytes = format!(in alloc; "{line}\n")?;
     out.put(bytes.as_bytes())?;

@@ -36,8 +36,9 @@ pub struct RunEnd {
     pub used: u64,
 }
 
-/// Runs the code of a main, which makes at most so many contractions: ticks of the machine, and actions. Each line that it puts is one
-/// put of the line and byte 10. The values that it makes lie in an arena that is given up at the end.
+/// Runs the code of a main, which makes at most so many contractions: ticks of the machine, and
+/// actions. Each line that it puts is one put of the line and byte 10. The values that it makes
+/// lie in an arena that is given up at the end.
 pub fn run_program<S: Source, O: Sink, T: Tapes>(
     alloc: Global,
     compiled: &Compiled,
@@ -50,10 +51,17 @@ pub fn run_program<S: Source, O: Sink, T: Tapes>(
     requires code { (E : Env) × IsCodeOfMain compiled.now main E }
     requires steps { bound ≤ 4000000000 }
     requires empty { ForSome (T.tapes tapes.old) (λ all. all ≡ []) }
-    ensures runs { (E : Env) → IsCodeOfMain compiled.now main E → RunsAsFull bound E main (S.content input.old)
-        (record { output_before = O.content out.old; output = O.content out.new; tapes_before = T.tapes tapes.old; tapes = T.tapes tapes.new })
+    ensures runs { (E : Env) → IsCodeOfMain compiled.now main E →
+        RunsAsFull bound E main (S.content input.old)
+        (record {
+          output_before = O.content out.old;
+          output = O.content out.new;
+          tapes_before = T.tapes tapes.old;
+          tapes = T.tapes tapes.new;
+        })
         result }
-    ensures source { Counts (S.faults input.old) (S.faults input.new) (Ends RunHow.SourceFault result) }
+    ensures source { Counts (S.faults input.old) (S.faults input.new)
+        (Ends RunHow.SourceFault result) }
     ensures sink { Counts (O.faults out.old) (O.faults out.new) (Ends RunHow.SinkFault result) }
     ensures tape { Counts (T.faults tapes.old) (T.faults tapes.new) (Ends RunHow.TapeFault result) }
 {

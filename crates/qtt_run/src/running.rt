@@ -1,13 +1,12 @@
 //! A run under way.
 
-ghost use Rattle.std.specs.Prelude.{◌≡◌, ◌≤◌, ◌<◌, ◌-◌, ℕ, List, Option, IfOk, IsErrOf, [], ◌∷◌};
+ghost use Rattle.std.specs.Prelude.{◌≡◌, ◌≤◌, ◌<◌, ◌-◌, ℕ, List, Option, IfOk, IsErrOf, []};
 ghost use Rattle.std.specs.Option.{ForSome};
 ghost use Rattle.qtt_edge.specs.Counts.{Counts};
 ghost use Rattle.qtt_prims.specs.Tapes.{Taped};
 ghost use Rattle.qtt_term.specs.Term.{Io};
 ghost use Rattle.qtt_term.specs.View.{action as action_of};
 ghost use Rattle.qtt_code.specs.Value.{Value, Values, ◌▹◌};
-ghost use Rattle.qtt_code.specs.View.{program as program_of};
 ghost use Rattle.qtt_code.specs.Machine.{start as started};
 ghost use Rattle.qtt_code.specs.Forward.{AllJumpForward};
 ghost use Rattle.qtt_value.specs.View.{value as value_of};
@@ -18,7 +17,8 @@ ghost use Rattle.qtt_run.specs.CodeRun.{Now};
 ghost use Rattle.qtt_run.specs.Deed.{AsksEffect, binds, gets, gives, puts, opens, writes, closes};
 ghost use Rattle.qtt_run.specs.Handles.{Mirrors};
 ghost use Rattle.qtt_run.specs.Underway.{Origin, Came, Computes, IsUnderway, Trapping, StartsAt, RestsAtStart};
-ghost use Rattle.qtt_run.specs.Underway.{AfterHalt, AfterTurn, Turned, Given, GivesNext, Ahead, fuel};
+ghost use Rattle.qtt_run.specs.Underway.{AfterHalt, AfterTurn, Turned, GivesNext, Ahead, fuel};
+ghost use Rattle.qtt_run.specs.Stop.{failure, memory_failure, sink_failure, tape_failure};
 
 use crate::deed::{Deed, Effect, asked};
 use crate::handles::Handles;
@@ -28,15 +28,15 @@ use crate::program::RunHow;
 use crate::stop::Stop;
 use bumpalo::Bump;
 use qtt_base::MemoryError;
-use qtt_edge::{Sink, Source, Tapes};
+use qtt_edge::{Sink, SinkError, Source, TapeError, Tapes};
 use qtt_lower::Compiled;
 use qtt_machine::{Halt, Machine, TrapKind};
 use qtt_prims::ActKind;
 use qtt_value::{Val, place};
 use std::alloc::Global;
 
-/// A run under way: the machine, the continuations that wait for results (the newest last), what was read and opened, and how many
-/// contractions may still be made.
+/// A run under way: the machine, the continuations that wait for results (the newest last), what
+/// was read and opened, and how many contractions may still be made.
 #[derive(Drop)]
 pub(crate) struct Running<'p, 'a> {
     alloc: Global,
@@ -70,8 +70,10 @@ impl<'p: 'a, 'a> Running<'p, 'a> {
         requires jumps { AllJumpForward (compiled_program compiled.now) }
         requires answers { machine.Answers (compiled_program compiled.now) (started block) }
         ensures stands { IfOk result (λ run. StartsAt (compiled_program compiled.now) block run) }
-        ensures rests { (content : Option (List ℕ)) (input : List ℕ) → IfOk result (λ run. RestsAtStart run content input) }
-        ensures mirrors { (told : Option (List Taped)) → ForSome told (λ all. all ≡ []) → IfOk result (λ run. Mirrors run.handles told []) }
+        ensures rests { (content : Option (List ℕ)) (input : List ℕ) →
+            IfOk result (λ run. RestsAtStart run content input) }
+        ensures mirrors { (told : Option (List Taped)) → ForSome told (λ all. all ≡ []) →
+            IfOk result (λ run. Mirrors run.handles told []) }
         ensures left { IfOk result (λ run. run.left ≡ bound) }
     {
         Ok(Running {
@@ -98,10 +100,13 @@ impl<'p: 'a, 'a> Running<'p, 'a> {
         out: &mut O,
         tapes: &mut T,
     ) -> Result<RunHow, Stop>
-        requires { (o : Origin) × Computes o self.old (S.content input.old) (O.content out.old) (T.tapes tapes.old) }
-        ensures comes { (o : Origin) → Computes o self.old (S.content input.old) (O.content out.old) (T.tapes tapes.old) →
-            Came o self.new.left (O.content out.new) (T.tapes tapes.new) result }
-        ensures source { Counts (S.faults input.old) (S.faults input.new) (IsErrOf result Stop.Source) }
+        requires { (o : Origin) × Computes o self.old (S.content input.old) (O.content out.old)
+            (T.tapes tapes.old) }
+        ensures comes { (o : Origin) →
+            Computes o self.old (S.content input.old) (O.content out.old) (T.tapes tapes.old) →
+            Came failure o self.new.left (O.content out.new) (T.tapes tapes.new) result }
+        ensures source { Counts (S.faults input.old) (S.faults input.new)
+            (IsErrOf result Stop.Source) }
         ensures sink { Counts (O.faults out.old) (O.faults out.new) (IsErrOf result Stop.Sink) }
         ensures tape { Counts (T.faults tapes.old) (T.faults tapes.new) (IsErrOf result Stop.Tape) }
     {
@@ -122,11 +127,17 @@ impl<'p: 'a, 'a> Running<'p, 'a> {
         out: &mut O,
         tapes: &mut T,
     ) -> Result<Turn<'a>, Stop>
-        requires { (o : Origin) × AfterTurn o self.old (S.content input.old) (O.content out.old) (T.tapes tapes.old) turn }
-        ensures turns { (o : Origin) → AfterTurn o self.old (S.content input.old) (O.content out.old) (T.tapes tapes.old) turn.entry →
-            Turned o self.new (S.content input.new) (O.content out.new) (T.tapes tapes.new) result }
-        ensures less { IfOk result (λ next. fuel next self.new.left ≤ fuel turn.entry self.old.left - 1) }
-        ensures source { Counts (S.faults input.old) (S.faults input.new) (IsErrOf result Stop.Source) }
+        requires { (o : Origin) × AfterTurn o self.old (S.content input.old) (O.content out.old)
+            (T.tapes tapes.old) turn }
+        ensures turns { (o : Origin) →
+            AfterTurn o self.old (S.content input.old) (O.content out.old)
+            (T.tapes tapes.old) turn.entry →
+            Turned failure o self.new (S.content input.new) (O.content out.new)
+            (T.tapes tapes.new) result }
+        ensures less { IfOk result
+            (λ next. fuel next self.new.left ≤ fuel turn.entry self.old.left - 1) }
+        ensures source { Counts (S.faults input.old) (S.faults input.new)
+            (IsErrOf result Stop.Source) }
         ensures sink { Counts (O.faults out.old) (O.faults out.new) (IsErrOf result Stop.Sink) }
         ensures tape { Counts (T.faults tapes.old) (T.faults tapes.new) (IsErrOf result Stop.Tape) }
     {
@@ -143,8 +154,10 @@ impl<'p: 'a, 'a> Running<'p, 'a> {
 
     /// Advances the machine within what is left.
     fn compute(&mut self) -> Result<Halt<'a>, MemoryError>
-        requires { (o : Origin) × (i : Option (List ℕ)) × (u : Option (List ℕ)) × (t : Option (List Taped)) × Computes o self.old i u t }
-        ensures halts { (o : Origin) (i u : Option (List ℕ)) (t : Option (List Taped)) → Computes o self.old i u t →
+        requires { (o : Origin) × (i : Option (List ℕ)) × (u : Option (List ℕ)) ×
+            (t : Option (List Taped)) × Computes o self.old i u t }
+        ensures halts { (o : Origin) (i u : Option (List ℕ)) (t : Option (List Taped)) →
+            Computes o self.old i u t →
             AfterHalt o self.new i u t result }
         ensures less { self.new.left ≤ self.old.left }
     {
@@ -155,13 +168,15 @@ impl<'p: 'a, 'a> Running<'p, 'a> {
     }
 
     /// Closes the tapes that are open. These are no contractions.
-    fn trap<T: Tapes>(&mut self, tapes: &mut T, kind: TrapKind) -> Result<RunHow, Stop>
-        requires { (o : Origin) × (u : Option (List ℕ)) × Trapping o (cause kind) self.old.left self.old.handles u (T.tapes tapes.old) }
-        ensures comes { (o : Origin) (u : Option (List ℕ)) → Trapping o (cause kind) self.old.left self.old.handles u (T.tapes tapes.old) →
-            Came o self.new.left u (T.tapes tapes.new) result }
-        ensures tape { Counts (T.faults tapes.old) (T.faults tapes.new) (IsErrOf result Stop.Tape) }
-        ensures no_source { IsErrOf result Stop.Source → ⊥ }
-        ensures no_sink { IsErrOf result Stop.Sink → ⊥ }
+    fn trap<T: Tapes>(&mut self, tapes: &mut T, kind: TrapKind) -> Result<RunHow, TapeError>
+        requires { (o : Origin) ×
+            (u : Option (List ℕ)) × Trapping o (cause kind) self.old.left self.old.handles u
+            (T.tapes tapes.old) }
+        ensures comes { (o : Origin) (u : Option (List ℕ)) →
+            Trapping o (cause kind) self.old.left self.old.handles u (T.tapes tapes.old) →
+            Came tape_failure o self.new.left u (T.tapes tapes.new) result }
+        ensures tape { Counts (T.faults tapes.old) (T.faults tapes.new)
+            (IsErrOf result TapeError.Failed) }
     {
         self.handles.close_all(tapes)?;
         Ok(RunHow::Trapped(kind))
@@ -176,12 +191,16 @@ impl<'p: 'a, 'a> Running<'p, 'a> {
         tapes: &mut T,
     ) -> Result<Turn<'a>, Stop>
         requires { (o : Origin) ×
-            IsUnderway o (Now.gave (value_of given)) self.old (S.content input.old) (O.content out.old) (T.tapes tapes.old) }
+            IsUnderway o (Now.gave (value_of given)) self.old (S.content input.old)
+            (O.content out.old) (T.tapes tapes.old) }
         ensures turns { (o : Origin) →
-            IsUnderway o (Now.gave (value_of given.entry)) self.old (S.content input.old) (O.content out.old) (T.tapes tapes.old) →
-            Turned o self.new (S.content input.new) (O.content out.new) (T.tapes tapes.new) result }
+            IsUnderway o (Now.gave (value_of given.entry)) self.old (S.content input.old)
+            (O.content out.old) (T.tapes tapes.old) →
+            Turned failure o self.new (S.content input.new) (O.content out.new)
+            (T.tapes tapes.new) result }
         ensures less { IfOk result (λ turn. fuel turn self.new.left ≤ self.old.left) }
-        ensures source { Counts (S.faults input.old) (S.faults input.new) (IsErrOf result Stop.Source) }
+        ensures source { Counts (S.faults input.old) (S.faults input.new)
+            (IsErrOf result Stop.Source) }
         ensures sink { Counts (O.faults out.old) (O.faults out.new) (IsErrOf result Stop.Sink) }
         ensures tape { Counts (T.faults tapes.old) (T.faults tapes.new) (IsErrOf result Stop.Tape) }
     {
@@ -195,11 +214,12 @@ impl<'p: 'a, 'a> Running<'p, 'a> {
 
     /// Gives a result to the newest continuation. Where none waits, the run has ended.
     fn give(&mut self, res: Val<'a>) -> Result<Turn<'a>, MemoryError>
-        requires { (o : Origin) × (m : Io) × (i : Option (List ℕ)) × (u : Option (List ℕ)) × (t : Option (List Taped)) ×
+        requires { (o : Origin) × (m : Io) × (i : Option (List ℕ)) × (u : Option (List ℕ)) ×
+            (t : Option (List Taped)) ×
             IsUnderway o (Now.gave (gives m (value_of res))) self.old i u t }
         ensures turns { (o : Origin) (m : Io) (i u : Option (List ℕ)) (t : Option (List Taped)) →
             IsUnderway o (Now.gave (gives m (value_of res.entry))) self.old i u t →
-            Given o self.new i u t result }
+            Turned memory_failure o self.new i u t result }
         ensures less { IfOk result (λ turn. fuel turn self.new.left ≤ self.old.left) }
     {
         let Some(rest) = self.waiting.pop() else {
@@ -213,7 +233,8 @@ impl<'p: 'a, 'a> Running<'p, 'a> {
         Ok(Turn::Computes)
     }
 
-    /// Reads a line. One that is none is a trap, which is told of also where the bound is reached.
+    /// Reads a line. One that is none is a trap, which is told of also where the bound is
+    /// reached.
     fn get_line<S: Source, T: Tapes>(
         &mut self,
         input: &mut S,
@@ -223,9 +244,10 @@ impl<'p: 'a, 'a> Running<'p, 'a> {
             IsUnderway o (Now.gave gets) self.old (S.content input.old) u (T.tapes tapes.old) }
         ensures turns { (o : Origin) (u : Option (List ℕ)) →
             IsUnderway o (Now.gave gets) self.old (S.content input.old) u (T.tapes tapes.old) →
-            Turned o self.new (S.content input.new) u (T.tapes tapes.new) result }
+            Turned failure o self.new (S.content input.new) u (T.tapes tapes.new) result }
         ensures less { IfOk result (λ turn. fuel turn self.new.left ≤ self.old.left) }
-        ensures source { Counts (S.faults input.old) (S.faults input.new) (IsErrOf result Stop.Source) }
+        ensures source { Counts (S.faults input.old) (S.faults input.new)
+            (IsErrOf result Stop.Source) }
         ensures tape { Counts (T.faults tapes.old) (T.faults tapes.new) (IsErrOf result Stop.Tape) }
         ensures no_sink { IsErrOf result Stop.Sink → ⊥ }
     {
@@ -243,7 +265,8 @@ impl<'p: 'a, 'a> Running<'p, 'a> {
     /// Gives a line that was read, where the bound leaves a contraction.
     fn give_line(&mut self, line: Val<'a>) -> Result<Turn<'a>, MemoryError>
         ensures turns { (o : Origin) (i u : Option (List ℕ)) (t : Option (List Taped)) →
-            GivesNext o (value_of line.entry) self.old i u t → Given o self.new i u t result }
+            GivesNext o (value_of line.entry) self.old i u t →
+            Turned memory_failure o self.new i u t result }
         ensures less { IfOk result (λ turn. fuel turn self.new.left ≤ self.old.left) }
     {
         if self.left == 0 {
@@ -262,10 +285,11 @@ impl<'p: 'a, 'a> Running<'p, 'a> {
     ) -> Result<Turn<'a>, Stop>
         requires left { 0 < self.old.left }
         requires at { (o : Origin) × (v : Value) × (i : Option (List ℕ)) ×
-            AsksEffect v effect × IsUnderway o (Now.gave v) self.old i (O.content out.old) (T.tapes tapes.old) }
+            AsksEffect v effect × IsUnderway o (Now.gave v) self.old i (O.content out.old)
+            (T.tapes tapes.old) }
         ensures turns { (o : Origin) (v : Value) (i : Option (List ℕ)) → AsksEffect v effect.entry →
             IsUnderway o (Now.gave v) self.old i (O.content out.old) (T.tapes tapes.old) →
-            Turned o self.new i (O.content out.new) (T.tapes tapes.new) result }
+            Turned failure o self.new i (O.content out.new) (T.tapes tapes.new) result }
         ensures less { IfOk result (λ turn. fuel turn self.new.left ≤ self.old.left) }
         ensures sink { Counts (O.faults out.old) (O.faults out.new) (IsErrOf result Stop.Sink) }
         ensures tape { Counts (T.faults tapes.old) (T.faults tapes.new) (IsErrOf result Stop.Tape) }
@@ -273,10 +297,10 @@ impl<'p: 'a, 'a> Running<'p, 'a> {
     {
         match effect {
             Effect::Bind(first, rest) => Ok(self.bind(first, rest)?),
-            Effect::PutLine(line) => self.put_line(out, line),
-            Effect::Open(name) => self.open(tapes, name),
-            Effect::Write(place, line) => self.write(tapes, place, line),
-            Effect::Close(place) => self.close(tapes, place),
+            Effect::PutLine(line) => Ok(self.put_line(out, line)?),
+            Effect::Open(name) => Ok(self.open(tapes, name)?),
+            Effect::Write(place, line) => Ok(self.write(tapes, place, line)?),
+            Effect::Close(place) => Ok(self.close(tapes, place)?),
         }
     }
 
@@ -284,8 +308,9 @@ impl<'p: 'a, 'a> Running<'p, 'a> {
     fn bind(&mut self, first: Val<'a>, rest: Val<'a>) -> Result<Turn<'a>, MemoryError>
         requires left { 0 < self.old.left }
         ensures turns { (o : Origin) (m n : Io) (i u : Option (List ℕ)) (t : Option (List Taped)) →
-            IsUnderway o (Now.gave (binds m n (value_of first.entry) (value_of rest.entry))) self.old i u t →
-            Given o self.new i u t result }
+            IsUnderway o (Now.gave (binds m n (value_of first.entry) (value_of rest.entry)))
+            self.old i u t →
+            Turned memory_failure o self.new i u t result }
         ensures less { IfOk result (λ turn. fuel turn self.new.left ≤ self.old.left) }
     {
         if self.waiting.push(rest).is_err() {
@@ -294,66 +319,67 @@ impl<'p: 'a, 'a> Running<'p, 'a> {
         Ok(self.spend(first))
     }
 
-    fn put_line<O: Sink>(&mut self, out: &mut O, line: &str) -> Result<Turn<'a>, Stop>
+    fn put_line<O: Sink>(&mut self, out: &mut O, line: &str) -> Result<Turn<'a>, SinkError>
         requires left { 0 < self.old.left }
         ensures turns { (o : Origin) (i : Option (List ℕ)) (t : Option (List Taped)) →
             IsUnderway o (Now.gave (puts line.now)) self.old i (O.content out.old) t →
-            Turned o self.new i (O.content out.new) t result }
+            Turned sink_failure o self.new i (O.content out.new) t result }
         ensures less { IfOk result (λ turn. fuel turn self.new.left ≤ self.old.left) }
-        ensures sink { Counts (O.faults out.old) (O.faults out.new) (IsErrOf result Stop.Sink) }
-        ensures no_source { IsErrOf result Stop.Source → ⊥ }
-        ensures no_tape { IsErrOf result Stop.Tape → ⊥ }
+        ensures sink { Counts (O.faults out.old) (O.faults out.new)
+            (IsErrOf result SinkError.Failed) }
     {
         let unit = self.pure(ActKind::Pure, Val::Con(0, &[]))?;
         put_line(self.alloc, out, line)?;
         Ok(self.spend(unit))
     }
 
-    fn open<T: Tapes>(&mut self, tapes: &mut T, name: &str) -> Result<Turn<'a>, Stop>
+    fn open<T: Tapes>(&mut self, tapes: &mut T, name: &str) -> Result<Turn<'a>, TapeError>
         requires left { 0 < self.old.left }
         requires at { (o : Origin) × (i : Option (List ℕ)) × (u : Option (List ℕ)) ×
             IsUnderway o (Now.gave (opens name.now)) self.old i u (T.tapes tapes.old) }
         ensures turns { (o : Origin) (i u : Option (List ℕ)) →
             IsUnderway o (Now.gave (opens name.now)) self.old i u (T.tapes tapes.old) →
-            Turned o self.new i u (T.tapes tapes.new) result }
+            Turned tape_failure o self.new i u (T.tapes tapes.new) result }
         ensures less { IfOk result (λ turn. fuel turn self.new.left ≤ self.old.left) }
-        ensures tape { Counts (T.faults tapes.old) (T.faults tapes.new) (IsErrOf result Stop.Tape) }
-        ensures no_source { IsErrOf result Stop.Source → ⊥ }
-        ensures no_sink { IsErrOf result Stop.Sink → ⊥ }
+        ensures tape { Counts (T.faults tapes.old) (T.faults tapes.new)
+            (IsErrOf result TapeError.Failed) }
     {
         let place = self.handles.open(tapes, name)?;
         let handle = self.pure(ActKind::Pure1, Val::Tape(place))?;
         Ok(self.spend(handle))
     }
 
-    fn write<T: Tapes>(&mut self, tapes: &mut T, place: u32, line: &str) -> Result<Turn<'a>, Stop>
+    fn write<T: Tapes>(
+        &mut self,
+        tapes: &mut T,
+        place: u32,
+        line: &str,
+    ) -> Result<Turn<'a>, TapeError>
         requires left { 0 < self.old.left }
         requires at { (o : Origin) × (i : Option (List ℕ)) × (u : Option (List ℕ)) ×
             IsUnderway o (Now.gave (writes place line.now)) self.old i u (T.tapes tapes.old) }
         ensures turns { (o : Origin) (i u : Option (List ℕ)) →
             IsUnderway o (Now.gave (writes place line.now)) self.old i u (T.tapes tapes.old) →
-            Turned o self.new i u (T.tapes tapes.new) result }
+            Turned tape_failure o self.new i u (T.tapes tapes.new) result }
         ensures less { IfOk result (λ turn. fuel turn self.new.left ≤ self.old.left) }
-        ensures tape { Counts (T.faults tapes.old) (T.faults tapes.new) (IsErrOf result Stop.Tape) }
-        ensures no_source { IsErrOf result Stop.Source → ⊥ }
-        ensures no_sink { IsErrOf result Stop.Sink → ⊥ }
+        ensures tape { Counts (T.faults tapes.old) (T.faults tapes.new)
+            (IsErrOf result TapeError.Failed) }
     {
         let handle = self.pure(ActKind::Pure1, Val::Tape(place))?;
         self.handles.write(tapes, place, line)?;
         Ok(self.spend(handle))
     }
 
-    fn close<T: Tapes>(&mut self, tapes: &mut T, place: u32) -> Result<Turn<'a>, Stop>
+    fn close<T: Tapes>(&mut self, tapes: &mut T, place: u32) -> Result<Turn<'a>, TapeError>
         requires left { 0 < self.old.left }
         requires at { (o : Origin) × (i : Option (List ℕ)) × (u : Option (List ℕ)) ×
             IsUnderway o (Now.gave (closes place)) self.old i u (T.tapes tapes.old) }
         ensures turns { (o : Origin) (i u : Option (List ℕ)) →
             IsUnderway o (Now.gave (closes place)) self.old i u (T.tapes tapes.old) →
-            Turned o self.new i u (T.tapes tapes.new) result }
+            Turned tape_failure o self.new i u (T.tapes tapes.new) result }
         ensures less { IfOk result (λ turn. fuel turn self.new.left ≤ self.old.left) }
-        ensures tape { Counts (T.faults tapes.old) (T.faults tapes.new) (IsErrOf result Stop.Tape) }
-        ensures no_source { IsErrOf result Stop.Source → ⊥ }
-        ensures no_sink { IsErrOf result Stop.Sink → ⊥ }
+        ensures tape { Counts (T.faults tapes.old) (T.faults tapes.new)
+            (IsErrOf result TapeError.Failed) }
     {
         let unit = self.pure(ActKind::Pure, Val::Con(0, &[]))?;
         self.handles.close(tapes, place)?;
@@ -364,7 +390,8 @@ impl<'p: 'a, 'a> Running<'p, 'a> {
     fn spend(&mut self, next: Val<'a>) -> Turn<'a>
         requires { 0 < self.old.left }
         ensures turns { (o : Origin) (i u : Option (List ℕ)) (t : Option (List Taped)) →
-            Ahead o (Now.gave (value_of next.entry)) self.old i u t → AfterTurn o self.new i u t result }
+            Ahead o (Now.gave (value_of next.entry)) self.old i u t →
+            AfterTurn o self.new i u t result }
         ensures less { fuel result self.new.left ≤ self.old.left }
     {
         self.left -= 1;
@@ -373,7 +400,8 @@ impl<'p: 'a, 'a> Running<'p, 'a> {
 
     /// The action that gives a value.
     fn pure(&self, kind: ActKind, res: Val<'a>) -> Result<Val<'a>, MemoryError>
-        ensures { IfOk result (λ given. value_of given ≡ Value.action (action_of kind) (value_of res.entry ▹ Values.none)) }
+        ensures { IfOk result (λ given. value_of given ≡ Value.action (action_of kind)
+            (value_of res.entry ▹ Values.none)) }
     {
         Ok(Val::Act(kind, place(self.arena, &[res])?))
     }

@@ -6,7 +6,7 @@ ghost use Rattle.qtt_run.specs.Stop.{of_line, of_sink, of_tape};
 
 use qtt_base::MemoryError;
 use qtt_edge::{LineError, SinkError, TapeError};
-use std::alloc::{AllocError, AllocFailed};
+use std::alloc::AllocError;
 
 /// What failed: a device of the outside, or there is no memory.
 #[derive(Clone, Copy, Debug, PartialEq, Eq)]
@@ -21,14 +21,6 @@ impl From<AllocError> for Stop {
     ghost from_gives = { λ _ e. e ≡ Memory };
 
     fn from(_error: AllocError) -> Stop {
-        Stop::Memory
-    }
-}
-
-impl<T: Drop> From<AllocFailed<T>> for Stop {
-    ghost from_gives = { λ _ e. e ≡ Memory };
-
-    fn from(_error: AllocFailed<T>) -> Stop {
         Stop::Memory
     }
 }

@@ -109,7 +109,8 @@ begins_negative t = app_negative t
 
 -- an expression in braces; `{-` would open a comment
 abbrev pub braced : ℕ → Tree → List Printed → List Printed
-braced c t ws = key (codes "{") ∷ ((if begins_negative t then blank ∷ [] else []) ++ (ws ++ (broken c (ends_open t) ++ key (codes "}") ∷ [])))
+braced c t ws = key (codes "{") ∷
+    ((if begins_negative t then blank ∷ [] else []) ++ (ws ++ (broken c (ends_open t) ++ key (codes "}") ∷ [])))
 
 -- ---- binders
 
@@ -154,7 +155,8 @@ abbrev mutual
   expr c (pi k m n a b s) = domain c k m n a (expr c a) ++ blank ∷ key (codes "->") ∷ blank ∷ expr c b
   expr c (lambda bs t s) = key (codes "\\") ∷ (binders c bs ++ key (codes "=>") ∷ blank ∷ expr c t)
   expr c (letting m n t e b s) =
-      let_head c m n.name (annotation_open t) (annotation c t) (expr c e) ++ (parted c (ends_open e) ++ key (codes "in") ∷ blank ∷ expr c b)
+      let_head c m n.name (annotation_open t) (annotation c t) (expr c e) ++
+      (parted c (ends_open e) ++ key (codes "in") ∷ blank ∷ expr c b)
   expr c (doing ss s) = key (codes "do") ∷ opened ∷ (statements (c + 2) ss ++ closed ∷ [])
 
   pub annotation : ℕ → Annotation → List Printed

@@ -100,7 +100,9 @@ abbrev pub con_of : ConDecl → Con
 con_of c = con c.name (tree_of c.ty) c.span
 
 abbrev pub item_of : item_code.Item → Item
-item_of (item.Family f) = family f.name f.name_span (map param_of f.params.items) (tree_of f.ty) (map con_of f.constructors.items) f.span
+item_of (item.Family f) =
+    family f.name f.name_span (map param_of f.params.items) (tree_of f.ty)
+    (map con_of f.constructors.items) f.span
 item_of (item.Signature d) = signature d.partial d.mult d.name d.name_span (tree_of d.ty) d.span
 item_of (item.Clause c) = clause c.name (map shape_of c.patterns.items) (tree_of c.side) c.span
 

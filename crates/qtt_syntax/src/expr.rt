@@ -39,8 +39,8 @@ pub struct Local {
     pub span: Span,
 }
 
-/// An expression. Each `span` is that of the form's first token, which is a bracket only where it
-/// begins a function's or a domain's part of the form.
+/// An expression. Each `span` is that of the form's first token, which is a bracket only where
+/// it begins a function's or a domain's part of the form.
 #[cycle(tree)]
 #[derive(Debug, Drop)]
 pub enum Expr {

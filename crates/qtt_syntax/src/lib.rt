@@ -1,7 +1,12 @@
 //! Trees of module texts.
+//!
+//! `print` writes exactly the canonical text of a tree. Worked: `examples::printed_as_worked`.
+//!
+//! A theory: its lemmas on what trees stand for may be cited.
 #![tactic(auto)]
 
 mod copying;
+pub mod examples;
 mod expr;
 mod module;
 mod pattern;

@@ -4,8 +4,6 @@ mod expression;
 mod forms;
 mod items;
 mod patterns;
-#[cfg(test)]
-mod tests;
 mod words;
 
 pub use items::print;

@@ -24,7 +24,8 @@ mutual
   all-kept : (ts : Terms) (ns : List ℕ) (n : ℕ) (σ : ℕ → Term) → Keeps n σ → AllBelow ns n ts → subs ns σ ts ≡ ts
   all-kept ε ns n σ h b = refl
   all-kept (t ▸ ts) ns n σ h b =
-      ap₂ ◌▸◌ (kept t (first ns + n) (lifts (first ns) σ) (lifts-keeps (first ns) n σ h) b.0) (all-kept ts (rest ns) n σ h b.1)
+      ap₂ ◌▸◌ (kept t (first ns + n) (lifts (first ns) σ) (lifts-keeps (first ns) n σ h) b.0)
+      (all-kept ts (rest ns) n σ h b.1)
 
 -- a substitution that keeps the variables of a term keeps the term
 pub below-kept : (n : ℕ) (σ : ℕ → Term) (t : Term) → ((i : ℕ) → i < n → σ i ≡ var i) → Below n t → sub σ t ≡ t

@@ -1,9 +1,6 @@
 -- The components that lists make, and the lists that components come from.
-use Rattle.std.proofs.Common.{◌≡◌, ℕ, zero, suc, ◌+◌, ◌<◌, List, [], ◌∷◌, ◌++◌, length, get_or, slice_get, Some, take, drop, map, refl, sym, ap, ◌∙◌, arith}
-use Rattle.std.proofs.lemmas.List.{length-map, length-append, length-drop, take-append-drop, take_more, get_or-drop, get_or-take, map-append}
-use Rattle.std.proofs.lemmas.Option.{get_or_from_slice_get}
-use Rattle.std.proofs.Math.ListN.{get_or-map}
-use Rattle.std.proofs.Math.Seq.{take-append_seam, drop-append_seam, take-length}
+use Rattle.std.proofs.Common.{◌≡◌, ℕ, zero, suc, ◌+◌, ◌<◌, List, [], ◌∷◌, ◌++◌, length, get_or, map, refl, sym, ap, ◌∙◌, arith}
+use Rattle.std.proofs.lemmas.List.{length-map}
 use Rattle.qtt_base.specs.declared.place.GlobalId.{GlobalId}
 use Rattle.qtt_usage.specs.declared.mult.Mult.{Mult}
 use Rattle.qtt_prims.specs.declared.prim.ActKind.{ActKind}
@@ -21,7 +18,8 @@ same_lists (x ∷ xs) (y ∷ ys) e =
     cc
 
 -- lists of one length in front are the same, and so is what follows them
-pub same_front : (xs ys : List Term) (ps qs : Terms) → length xs ≡ length ys → side_by_side xs +++ ps ≡ side_by_side ys +++ qs → (xs ≡ ys) × (ps ≡ qs)
+pub same_front : (xs ys : List Term) (ps qs : Terms) → length xs ≡ length ys →
+    side_by_side xs +++ ps ≡ side_by_side ys +++ qs → (xs ≡ ys) × (ps ≡ qs)
 same_front [] [] ps qs n e = (refl, e)
 same_front [] (y ∷ ys) ps qs n e = absurd (omega arith)
 same_front (x ∷ xs) [] ps qs n e = absurd (omega arith)
@@ -35,7 +33,8 @@ pub joined : (xs ys : List Term) → side_by_side xs +++ side_by_side ys ≡ sid
 joined [] ys = refl
 joined (x ∷ xs) ys = ap (λ ts. x ▸ ts) (joined xs ys)
 
-same_pairs : (bs cs : List (ℕ × Term)) → map (λ b. b.0) bs ≡ map (λ b. b.0) cs → map (λ b. b.1) bs ≡ map (λ b. b.1) cs → bs ≡ cs
+same_pairs : (bs cs : List (ℕ × Term)) → map (λ b. b.0) bs ≡ map (λ b. b.0) cs →
+    map (λ b. b.1) bs ≡ map (λ b. b.1) cs → bs ≡ cs
 same_pairs [] [] e f = refl
 same_pairs [] (c ∷ cs) e f = cc
 same_pairs (b ∷ bs) [] e f = cc
@@ -50,9 +49,11 @@ same_pairs (b ∷ bs) (c ∷ cs) e f =
 -- the components of a Case
 abbrev pub case_of : Mult → GlobalId → List Term → ℕ → Term → List (ℕ × Term) → Term → Term
 case_of q f ps i m bs s =
-    node (Form.case q f (length ps) (i + 1) (map (λ b. b.0) bs)) (side_by_side ps +++ (m ▸ (side_by_side (map (λ b. b.1) bs) +++ (s ▸ ε))))
+    node (Form.case q f (length ps) (i + 1) (map (λ b. b.0) bs))
+    (side_by_side ps +++ (m ▸ (side_by_side (map (λ b. b.1) bs) +++ (s ▸ ε))))
 
-pub record SameCase (q r : Mult) (f g : GlobalId) (ps qs : List Term) (i j : ℕ) (m n : Term) (bs cs : List (ℕ × Term)) (s t : Term) : Type 0 where
+pub record SameCase (q r : Mult) (f g : GlobalId) (ps qs : List Term) (i j : ℕ) (m n : Term)
+    (bs cs : List (ℕ × Term)) (s t : Term) : Type 0 where
   pub mult : q ≡ r
   pub family : f ≡ g
   pub params : ps ≡ qs
@@ -61,15 +62,18 @@ pub record SameCase (q r : Mult) (f g : GlobalId) (ps qs : List Term) (i j : ℕ
   pub branches : bs ≡ cs
   pub scrutinee : s ≡ t
 
-pub same_case : (q r : Mult) (f g : GlobalId) (ps qs : List Term) (i j : ℕ) (m n : Term) (bs cs : List (ℕ × Term)) (s t : Term) →
+pub same_case : (q r : Mult) (f g : GlobalId) (ps qs : List Term) (i j : ℕ) (m n : Term) (bs cs : List (ℕ × Term))
+    (s t : Term) →
     case_of q f ps i m bs s ≡ case_of r g qs j n cs t → SameCase q r f g ps qs i j m n bs cs s t
 same_case q r f g ps qs i j m n bs cs s t e =
     let count : length ps ≡ length qs = cc in
     let binders : map (λ b. b.0) bs ≡ map (λ b. b.0) cs = cc in
     let indices : i + 1 ≡ j + 1 = cc in
-    let parts : side_by_side ps +++ (m ▸ (side_by_side (map (λ b. b.1) bs) +++ (s ▸ ε))) ≡ side_by_side qs +++ (n ▸ (side_by_side (map (λ b. b.1) cs) +++ (t ▸ ε))) = cc in
+    let parts : side_by_side ps +++ (m ▸ (side_by_side (map (λ b. b.1) bs) +++ (s ▸ ε))) ≡ side_by_side qs +++
+    (n ▸ (side_by_side (map (λ b. b.1) cs) +++ (t ▸ ε))) = cc in
     let front = same_front ps qs _ _ count parts in
-    let rest : side_by_side (map (λ b. b.1) bs) +++ (s ▸ ε) ≡ side_by_side (map (λ b. b.1) cs) +++ (t ▸ ε) = cc (front.1) in
+    let rest : side_by_side (map (λ b. b.1) bs) +++ (s ▸ ε) ≡ side_by_side (map (λ b. b.1) cs) +++ (t ▸ ε) =
+    cc (front.1) in
     let middle = same_front (map (λ b. b.1) bs) (map (λ b. b.1) cs) _ _ (lengths bs cs binders) rest in
     record {
       mult = cc;
@@ -81,8 +85,10 @@ same_case q r f g ps qs i j m n bs cs s t e =
       scrutinee = cc (middle.1);
     }
   where
-    lengths : (xs ys : List (ℕ × Term)) → map (λ b. b.0) xs ≡ map (λ b. b.0) ys → length (map (λ b. b.1) xs) ≡ length (map (λ b. b.1) ys)
-    lengths xs ys h = length-map xs (λ b. b.1) ∙ sym (length-map xs (λ b. b.0)) ∙ ap length h ∙ length-map ys (λ b. b.0) ∙ sym (length-map ys (λ b. b.1))
+    lengths : (xs ys : List (ℕ × Term)) → map (λ b. b.0) xs ≡ map (λ b. b.0) ys →
+        length (map (λ b. b.1) xs) ≡ length (map (λ b. b.1) ys)
+    lengths xs ys h = length-map xs (λ b. b.1) ∙ sym (length-map xs (λ b. b.0)) ∙ ap length h ∙ length-map ys
+        (λ b. b.0) ∙ sym (length-map ys (λ b. b.1))
 
 -- ---- actions
 kind_of : Action → ActKind
@@ -115,56 +121,26 @@ kind_of-action act_kind.BindIo1Io1 = refl
 pub same_action : (k m : ActKind) → action k ≡ action m → k ≡ m
 same_action k m e = sym (kind_of-action k) ∙ ap kind_of e ∙ kind_of-action m
 
--- ---- lists one behind the other
+-- the components of an action: type arguments, and behind them arguments
 pub record SameAct (k m : ActKind) (xs ys us vs : List Term) : Type 0 where
-  pub kinds : k ≡ m
-  pub count : length xs + length ys ≡ length us + length vs
-  pub front : xs ≡ take (length xs) (drop 0 (us ++ vs))
-  pub back : ys ≡ take (length ys) (drop (length xs) (us ++ vs))
+  pub kind : k ≡ m
+  pub types : xs ≡ us
+  pub arguments : ys ≡ vs
 
-pub same_act : (k m : ActKind) (xs ys us vs : List Term) → Act (action k) (side_by_side xs +++ side_by_side ys) ≡ Act (action m) (side_by_side us +++ side_by_side vs) →
+pub same_act : (k m : ActKind) (xs ys us vs : List Term) →
+    Act (action k) (length xs) (side_by_side xs +++ side_by_side ys)
+    ≡ Act (action m) (length us) (side_by_side us +++ side_by_side vs) →
     SameAct k m xs ys us vs
 same_act k m xs ys us vs e =
     let actions : action k ≡ action m = cc in
+    let counts : length xs ≡ length us = cc in
     let parts : side_by_side xs +++ side_by_side ys ≡ side_by_side us +++ side_by_side vs = cc in
-    let lists = same_lists (xs ++ ys) (us ++ vs) (sym (joined xs ys) ∙ parts ∙ joined us vs) in
-    record {
-      kinds = same_action k m actions;
-      count = sym (length-append xs ys) ∙ ap length lists ∙ length-append us vs;
-      front = sym (take-append_seam xs ys) ∙ ap (λ zs. take (length xs) (drop 0 zs)) lists;
-      back = sym (take-length ys) ∙ ap (take (length ys)) (sym (drop-append_seam xs ys)) ∙ ap (λ zs. take (length ys) (drop (length xs) zs)) lists;
-    }
-
-pub act_same : (k m : ActKind) (xs ys us vs : List Term) → k ≡ m → length xs + length ys ≡ length us + length vs →
-    xs ≡ take (length xs) (drop 0 (us ++ vs)) → ys ≡ take (length ys) (drop (length xs) (us ++ vs)) →
-    Act (action k) (side_by_side xs +++ side_by_side ys) ≡ Act (action m) (side_by_side us +++ side_by_side vs)
-act_same k m xs ys us vs e n front back =
-    let all = us ++ vs in
-    let left : length ys ≡ length (drop (length xs) all) = omega (arith, length-drop (length xs) all, length-append us vs) in
-    let behind = back ∙ ap (λ i. take i (drop (length xs) all)) left ∙ take-length (drop (length xs) all) in
-    let lists = ap (λ zs. zs ++ ys) front ∙ ap (λ zs. take (length xs) all ++ zs) behind ∙ take-append-drop (length xs) all in
-    ap (λ j. Act (action j) (side_by_side xs +++ side_by_side ys)) e
-    ∙ ap (Act (action m)) (joined xs ys ∙ ap side_by_side lists ∙ sym (joined us vs))
-
--- one more element that is the same
-pub part_more : {A B : Type 0} (f : A → B) (part all : List A) (n i : ℕ) (x y : A) → map f (take i part) ≡ take i (drop n (map f all)) → i < length part →
-    x ≡ get_or part i x → slice_get all (n + i) ≡ Some y → n + i < length all → f x ≡ f y → map f (take (i + 1) part) ≡ take (i + 1) (drop n (map f all))
-part_more f part all n i x y h lt at there in_range e =
-    let rest = drop n (map f all) in
-    let room : i < length rest = omega (arith, length-drop n (map f all), length-map all f) in
-    let here : f x ≡ get_or rest i (f y) = e ∙ ap f (sym (get_or_from_slice_get all (n + i) y y there)) ∙ sym (get_or-map f all (n + i) y) ∙ sym (get_or-drop n (map f all) i (f y)) in
-    ap (map f) (take_more part i x lt ∙ ap (λ z. take i part ++ z ∷ []) (sym at)) ∙ map-append f (take i part) (x ∷ [])
-    ∙ ap (λ zs. zs ++ f x ∷ []) h ∙ ap (λ z. take i rest ++ z ∷ []) here ∙ sym (take_more rest i (f y) room)
-
--- one that is not
-pub part_differs : {A B : Type 0} (f : A → B) (part all : List A) (n i : ℕ) (x y : A) → map f part ≡ take (length part) (drop n (map f all)) → i < length part →
-    x ≡ get_or part i x → slice_get all (n + i) ≡ Some y → f x ≡ f y
-part_differs f part all n i x y h lt at there =
-    ap f at ∙ sym (get_or-map f part i x) ∙ ap (λ zs. get_or zs i (f x)) h ∙ get_or-take (length part) (drop n (map f all)) i (f x) lt
-    ∙ get_or-drop n (map f all) i (f x) ∙ get_or-map f all (n + i) x ∙ ap f (get_or_from_slice_get all (n + i) y x there)
+    let front = same_front xs us (side_by_side ys) (side_by_side vs) counts parts in
+    record { kind = same_action k m actions; types = front.0; arguments = same_lists ys vs front.1 }
 
 -- lists that differ at an index differ
-pub same_at : {A B : Type 0} (f : A → B) (xs ys : List A) (i : ℕ) (d : A) → map f xs ≡ map f ys → i < length xs → i < length ys → f (get_or xs i d) ≡ f (get_or ys i d)
+pub same_at : {A B : Type 0} (f : A → B) (xs ys : List A) (i : ℕ) (d : A) → map f xs ≡ map f ys → i < length xs →
+    i < length ys → f (get_or xs i d) ≡ f (get_or ys i d)
 same_at f [] ys i d e p q = absurd (omega arith)
 same_at f (x ∷ xs) [] i d e p q = absurd (omega arith)
 same_at f (x ∷ xs) (y ∷ ys) zero d e p q = cc

@@ -36,13 +36,15 @@ behind-values t (Outcomes.steps ss) e = absurd (cc e)
 behind-values t (Outcomes.traps k) e = absurd (cc e)
 behind-values t Outcomes.sticks e = absurd (cc e)
 
-pub before-values : (o : Outcome) (t : Term) (ts : Terms) (r : Outcomes) → before o t ts r ≡ Outcomes.values → (o ≡ Outcome.value) × (r ≡ Outcomes.values)
+pub before-values : (o : Outcome) (t : Term) (ts : Terms) (r : Outcomes) → before o t ts r ≡ Outcomes.values →
+    (o ≡ Outcome.value) × (r ≡ Outcomes.values)
 before-values Outcome.value t ts r e = (refl, behind-values t r e)
 before-values (Outcome.step s) t ts r e = absurd (cc e)
 before-values (Outcome.trap k) t ts r e = absurd (cc e)
 before-values Outcome.stuck t ts r e = absurd (cc e)
 
-pub finish-values : (E : Env) (F : Form) (ts : Terms) (o : Outcomes) → finish E F ts o ≡ Outcome.value → (o ≡ Outcomes.values) × (itself E F ts ≡ Outcome.value)
+pub finish-values : (E : Env) (F : Form) (ts : Terms) (o : Outcomes) → finish E F ts o ≡ Outcome.value →
+    (o ≡ Outcomes.values) × (itself E F ts ≡ Outcome.value)
 finish-values E F ts Outcomes.values e = (refl, e)
 finish-values E F ts (Outcomes.steps ss) e = absurd (cc e)
 finish-values E F ts (Outcomes.traps k) e = absurd (cc e)
@@ -61,7 +63,8 @@ one-kept : (E : Env) (ts : Terms) → full_steps E (𝟘 ∷ []) ts ≡ Outcomes
 one-kept E ε = refl
 one-kept E (t ▸ ts) = rw (nothing-asked E ts) refl
 
-node-is : (E : Env) (F : Form) (ts : Terms) → full_steps E (demanded E F) ts ≡ Outcomes.values → itself E F ts ≡ Outcome.value → full_step E (node F ts) ≡ Outcome.value
+node-is : (E : Env) (F : Form) (ts : Terms) → full_steps E (demanded E F) ts ≡ Outcomes.values →
+    itself E F ts ≡ Outcome.value → full_step E (node F ts) ≡ Outcome.value
 node-is E F ts h e = ap (finish E F ts) h ∙ e
 
 type-kept : (E : Env) (p : PrimTy) (ts : Terms) → full_step E (node (Form.named (Named.prim_ty p)) ts) ≡ Outcome.value
@@ -85,7 +88,7 @@ module _ {E : Env} where
     value-kept (Value.lit {l = l} {ts = ts}) = lit-kept E l ts
     value-kept (Value.tape {n = n} {ts = ts}) = node-is E (Form.tape n) ts (nothing-asked E ts) refl
     value-kept (Value.con {f = f} {c = c} {k = k} {ts = ts} h) = node-is E (Form.con f c k) ts (values-kept h) refl
-    value-kept (Value.act {a = a} {ts = ts} h) = node-is E (Form.named (Named.act a)) ts (values-kept h) refl
+    value-kept (Value.act {a = a} {k = k} {ts = ts} h) = node-is E (Form.named (Named.act a k)) ts (values-kept h) refl
 
     values-kept : {ms : List Mult} {ts : Terms} → Values E ms ts → full_steps E ms ts ≡ Outcomes.values
     values-kept (Values.none {ts = ts}) = nothing-asked E ts
@@ -95,7 +98,8 @@ module _ {E : Env} where
     values-kept (Values.many v h) = rw (value-kept v, values-kept h) refl
 
 -- ---- what is kept is a value
-node-value : (E : Env) (F : Form) (ts : Terms) → itself E F ts ≡ Outcome.value → Values E (demanded E F) ts → Value E (node F ts)
+node-value : (E : Env) (F : Form) (ts : Terms) → itself E F ts ≡ Outcome.value → Values E (demanded E F) ts →
+    Value E (node F ts)
 node-value E (Form.sort l) ts e h = Value.sort
 node-value E (Form.pi q) ts e h = Value.pi
 node-value E (Form.lam q) ts e h = Value.lam
@@ -104,7 +108,7 @@ node-value E (Form.con f c k) ts e h = Value.con h
 node-value E (Form.tape n) ts e h = Value.tape
 node-value E (Form.named (Named.lit l)) ts e h = Value.lit
 node-value E (Form.named (Named.prim_ty p)) ts e h = Value.prim_ty
-node-value E (Form.named (Named.act a)) ts e h = Value.act h
+node-value E (Form.named (Named.act a k)) ts e h = Value.act h
 node-value E (Form.named (Named.def d)) ts e h = absurd (contracts-value _ e)
 node-value E (Form.named (Named.prim p)) ts e h = absurd (primitive-value p _ e)
 node-value E (Form.app q) ts e h = absurd (contracts-value _ e)
@@ -124,9 +128,11 @@ mutual
   kept-values E (m ∷ ms) ε e = Values.no_more
   kept-values E (𝟘 ∷ ms) (t ▸ ts) e = Values.kept_one (kept-values E ms ts (behind-values t _ e))
   kept-values E (𝟙 ∷ ms) (t ▸ ts) e =
-      let b = before-values (full_step E t) t ts (full_steps E ms ts) e in Values.one (kept-value E t b.0) (kept-values E ms ts b.1)
+      let b = before-values (full_step E t) t ts (full_steps E ms ts) e in Values.one (kept-value E t b.0)
+      (kept-values E ms ts b.1)
   kept-values E (ω ∷ ms) (t ▸ ts) e =
-      let b = before-values (full_step E t) t ts (full_steps E ms ts) e in Values.many (kept-value E t b.0) (kept-values E ms ts b.1)
+      let b = before-values (full_step E t) t ts (full_steps E ms ts) e in Values.many (kept-value E t b.0)
+      (kept-values E ms ts b.1)
 
 -- ---- a contraction in the place of evaluation: inside, in a component that is not at 0
 mutual
@@ -135,8 +141,10 @@ mutual
     inside : {F : Form} {ts ss : Terms} → Moves E (demanded E F) ts ss → Move E (node F ts) (node F ss)
 
   pub data Moves (E : Env) : List Mult → Terms → Terms → Type 0 where
-    at : {m : Mult} {ms : List Mult} {t s : Term} {ts : Terms} → Usable Part.run m → Move E t s → Moves E (m ∷ ms) (t ▸ ts) (s ▸ ts)
-    after : {m : Mult} {ms : List Mult} {t : Term} {ts ss : Terms} → Moves E ms ts ss → Moves E (m ∷ ms) (t ▸ ts) (t ▸ ss)
+    at : {m : Mult} {ms : List Mult} {t s : Term} {ts : Terms} → Usable Part.run m → Move E t s →
+        Moves E (m ∷ ms) (t ▸ ts) (s ▸ ts)
+    after : {m : Mult} {ms : List Mult} {t : Term} {ts ss : Terms} → Moves E ms ts ss →
+        Moves E (m ∷ ms) (t ▸ ts) (t ▸ ss)
 
 module _ {E : Env} where
   mutual
@@ -164,7 +172,8 @@ answers-step (answer.Truth b) s e = contracts-step _ s e
 answers-step answer.DivisionByZero s e = absurd (cc e)
 answers-step answer.IllTyped s e = absurd (cc e)
 
-primitive-step : (p : Primitive) (o : Option (List Lit)) (s : Term) → primitive p o ≡ Outcome.step s → chain o (computed p) ≡ Some s
+primitive-step : (p : Primitive) (o : Option (List Lit)) (s : Term) → primitive p o ≡ Outcome.step s →
+    chain o (computed p) ≡ Some s
 primitive-step p None s e = absurd (cc e)
 primitive-step p (Some ls) s e = answers-step (apply p ls) s e
 
@@ -189,13 +198,15 @@ behind-steps t (Outcomes.steps rs) ss e = (rs, refl, sym (steps-of e))
 behind-steps t (Outcomes.traps k) ss e = absurd (cc e)
 behind-steps t Outcomes.sticks ss e = absurd (cc e)
 
-before-steps : (o : Outcome) (t : Term) (ts : Terms) (r : Outcomes) (ss : Terms) → before o t ts r ≡ Outcomes.steps ss → Now o ts ss ⊎ Later t r ss
+before-steps : (o : Outcome) (t : Term) (ts : Terms) (r : Outcomes) (ss : Terms) →
+    before o t ts r ≡ Outcomes.steps ss → Now o ts ss ⊎ Later t r ss
 before-steps Outcome.value t ts r ss e = inr (behind-steps t r ss e)
 before-steps (Outcome.step s) t ts r ss e = inl (s, refl, sym (steps-of e))
 before-steps (Outcome.trap k) t ts r ss e = absurd (cc e)
 before-steps Outcome.stuck t ts r ss e = absurd (cc e)
 
-component-steps : (m : Mult) (o : Outcome) (t : Term) (ts : Terms) (r : Outcomes) (ss : Terms) → component m o t ts r ≡ Outcomes.steps ss →
+component-steps : (m : Mult) (o : Outcome) (t : Term) (ts : Terms) (r : Outcomes) (ss : Terms) →
+    component m o t ts r ≡ Outcomes.steps ss →
     (Usable Part.run m × Now o ts ss) ⊎ Later t r ss
 component-steps 𝟘 o t ts r ss e = inr (behind-steps t r ss e)
 component-steps 𝟙 o t ts r ss e = elim (before-steps o t ts r ss e) [ inl n ↦ inl (tt, n) | inr l ↦ inr l ]

@@ -7,6 +7,9 @@ pub mod Evaluation
 pub mod Output
 pub mod Scope
 pub mod Rows
+pub mod VectorRows
+pub mod PositivityRows
+pub mod EchoRows
 pub mod PrimFormed
 pub mod Moves
 pub mod Components
@@ -16,3 +19,9 @@ pub mod Constructors
 pub mod PrimGlobals
 pub mod Range
 pub mod Ranged
+pub mod Kept
+pub mod Reach
+pub mod Each
+pub mod InShape
+pub mod Tests
+pub mod Shaped

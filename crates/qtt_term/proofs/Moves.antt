@@ -39,16 +39,20 @@ sub_under m n σ t = ap (λ f. sub f t) (lifts-lifts m n σ)
 pub sub_under_one : (m : ℕ) (σ : ℕ → Term) (t : Term) → sub (lift (lifts m σ)) t ≡ sub (lifts (m + 1) σ) t
 sub_under_one m σ t = sub_under m 1 σ t
 
-pub ren-Pi : (m : ℕ) (ρ : ℕ → ℕ) (q : Mult) (A B : Term) → ren (lifts_ren m ρ) (Pi q A B) ≡ Pi q (ren (lifts_ren m ρ) A) (ren (lifts_ren (m + 1) ρ) B)
+pub ren-Pi : (m : ℕ) (ρ : ℕ → ℕ) (q : Mult) (A B : Term) →
+    ren (lifts_ren m ρ) (Pi q A B) ≡ Pi q (ren (lifts_ren m ρ) A) (ren (lifts_ren (m + 1) ρ) B)
 ren-Pi m ρ q A B = ap (Pi q (ren (lifts_ren m ρ) A)) (ren_under_one m ρ B)
 
-pub ren-Lam : (m : ℕ) (ρ : ℕ → ℕ) (q : Mult) (A b : Term) → ren (lifts_ren m ρ) (Lam q A b) ≡ Lam q (ren (lifts_ren m ρ) A) (ren (lifts_ren (m + 1) ρ) b)
+pub ren-Lam : (m : ℕ) (ρ : ℕ → ℕ) (q : Mult) (A b : Term) →
+    ren (lifts_ren m ρ) (Lam q A b) ≡ Lam q (ren (lifts_ren m ρ) A) (ren (lifts_ren (m + 1) ρ) b)
 ren-Lam m ρ q A b = ap (Lam q (ren (lifts_ren m ρ) A)) (ren_under_one m ρ b)
 
-pub sub-Pi : (m : ℕ) (σ : ℕ → Term) (q : Mult) (A B : Term) → sub (lifts m σ) (Pi q A B) ≡ Pi q (sub (lifts m σ) A) (sub (lifts (m + 1) σ) B)
+pub sub-Pi : (m : ℕ) (σ : ℕ → Term) (q : Mult) (A B : Term) →
+    sub (lifts m σ) (Pi q A B) ≡ Pi q (sub (lifts m σ) A) (sub (lifts (m + 1) σ) B)
 sub-Pi m σ q A B = ap (Pi q (sub (lifts m σ) A)) (sub_under_one m σ B)
 
-pub sub-Lam : (m : ℕ) (σ : ℕ → Term) (q : Mult) (A b : Term) → sub (lifts m σ) (Lam q A b) ≡ Lam q (sub (lifts m σ) A) (sub (lifts (m + 1) σ) b)
+pub sub-Lam : (m : ℕ) (σ : ℕ → Term) (q : Mult) (A b : Term) →
+    sub (lifts m σ) (Lam q A b) ≡ Lam q (sub (lifts m σ) A) (sub (lifts (m + 1) σ) b)
 sub-Lam m σ q A b = ap (Lam q (sub (lifts m σ) A)) (sub_under_one m σ b)
 
 -- ---- the components of lists
@@ -56,7 +60,8 @@ pub rens_side_by_side : (ρ : ℕ → ℕ) (ts : List Term) → rens [] ρ (side
 rens_side_by_side ρ [] = refl
 rens_side_by_side ρ (t ∷ ts) = ap (λ ss. ren ρ t ▸ ss) (rens_side_by_side ρ ts)
 
-pub rens_joined : (ρ : ℕ → ℕ) (ts : List Term) (ss : Terms) → rens [] ρ (side_by_side ts +++ ss) ≡ side_by_side (map (ren ρ) ts) +++ rens [] ρ ss
+pub rens_joined : (ρ : ℕ → ℕ) (ts : List Term) (ss : Terms) →
+    rens [] ρ (side_by_side ts +++ ss) ≡ side_by_side (map (ren ρ) ts) +++ rens [] ρ ss
 rens_joined ρ [] ss = refl
 rens_joined ρ (t ∷ ts) ss = ap (λ rs. ren ρ t ▸ rs) (rens_joined ρ ts ss)
 
@@ -66,11 +71,13 @@ rens_behind ρ [] ns ss = refl
 rens_behind ρ (t ∷ ts) ns ss = ap (λ rs. ren ρ t ▸ rs) (rens_behind ρ ts ns ss)
 
 pub rens_branches : (ρ : ℕ → ℕ) (bs : List (ℕ × Term)) (ss : Terms) →
-    rens (map (λ b. b.0) bs) ρ (side_by_side (map (λ b. b.1) bs) +++ ss) ≡ side_by_side (map (λ b. b.1) (map (ren_branch ρ) bs)) +++ rens [] ρ ss
+    rens (map (λ b. b.0) bs) ρ (side_by_side (map (λ b. b.1) bs) +++ ss) ≡ side_by_side
+    (map (λ b. b.1) (map (ren_branch ρ) bs)) +++ rens [] ρ ss
 rens_branches ρ [] ss = refl
 rens_branches ρ (b ∷ bs) ss = ap (λ rs. ren (lifts_ren b.0 ρ) b.1 ▸ rs) (rens_branches ρ bs ss)
 
-pub ren_branches-binders : (ρ : ℕ → ℕ) (bs : List (ℕ × Term)) → map (λ b. b.0) (map (ren_branch ρ) bs) ≡ map (λ b. b.0) bs
+pub ren_branches-binders : (ρ : ℕ → ℕ) (bs : List (ℕ × Term)) →
+    map (λ b. b.0) (map (ren_branch ρ) bs) ≡ map (λ b. b.0) bs
 ren_branches-binders ρ [] = refl
 ren_branches-binders ρ (b ∷ bs) = ap (λ ns. b.0 ∷ ns) (ren_branches-binders ρ bs)
 
@@ -78,7 +85,8 @@ pub subs_side_by_side : (σ : ℕ → Term) (ts : List Term) → subs [] σ (sid
 subs_side_by_side σ [] = refl
 subs_side_by_side σ (t ∷ ts) = ap (λ ss. sub σ t ▸ ss) (subs_side_by_side σ ts)
 
-pub subs_joined : (σ : ℕ → Term) (ts : List Term) (ss : Terms) → subs [] σ (side_by_side ts +++ ss) ≡ side_by_side (map (sub σ) ts) +++ subs [] σ ss
+pub subs_joined : (σ : ℕ → Term) (ts : List Term) (ss : Terms) →
+    subs [] σ (side_by_side ts +++ ss) ≡ side_by_side (map (sub σ) ts) +++ subs [] σ ss
 subs_joined σ [] ss = refl
 subs_joined σ (t ∷ ts) ss = ap (λ rs. sub σ t ▸ rs) (subs_joined σ ts ss)
 
@@ -88,11 +96,13 @@ subs_behind σ [] ns ss = refl
 subs_behind σ (t ∷ ts) ns ss = ap (λ rs. sub σ t ▸ rs) (subs_behind σ ts ns ss)
 
 pub subs_branches : (σ : ℕ → Term) (bs : List (ℕ × Term)) (ss : Terms) →
-    subs (map (λ b. b.0) bs) σ (side_by_side (map (λ b. b.1) bs) +++ ss) ≡ side_by_side (map (λ b. b.1) (map (sub_branch σ) bs)) +++ subs [] σ ss
+    subs (map (λ b. b.0) bs) σ (side_by_side (map (λ b. b.1) bs) +++ ss) ≡ side_by_side
+    (map (λ b. b.1) (map (sub_branch σ) bs)) +++ subs [] σ ss
 subs_branches σ [] ss = refl
 subs_branches σ (b ∷ bs) ss = ap (λ rs. sub (lifts b.0 σ) b.1 ▸ rs) (subs_branches σ bs ss)
 
-pub sub_branches-binders : (σ : ℕ → Term) (bs : List (ℕ × Term)) → map (λ b. b.0) (map (sub_branch σ) bs) ≡ map (λ b. b.0) bs
+pub sub_branches-binders : (σ : ℕ → Term) (bs : List (ℕ × Term)) →
+    map (λ b. b.0) (map (sub_branch σ) bs) ≡ map (λ b. b.0) bs
 sub_branches-binders σ [] = refl
 sub_branches-binders σ (b ∷ bs) = ap (λ ns. b.0 ∷ ns) (sub_branches-binders σ bs)
 
@@ -180,7 +190,8 @@ pub raised-zero : (by : ℕ) (t : Term) → ren (raised 0 by) t ≡ ren (shift b
 raised-zero by t = ap (λ f. ren f t) (sym (raised-lifts 0 by))
 
 -- ---- values for the newest variables
-pub push-above : (vs : List Term) (σ : ℕ → Term) (i : ℕ) → length vs ≤ i → push (side_by_side vs) σ i ≡ σ (i - length vs)
+pub push-above : (vs : List Term) (σ : ℕ → Term) (i : ℕ) → length vs ≤ i →
+    push (side_by_side vs) σ i ≡ σ (i - length vs)
 push-above [] σ i h =
     let e : i ≡ i - 0 = omega arith in
     ap σ e
@@ -193,7 +204,8 @@ push-next : (v : Term) (vs : List Term) (σ : ℕ → Term) (i : ℕ) (d : Term)
     push (side_by_side vs) (cons v σ) i ≡ get_or (v ∷ vs) (length (v ∷ vs) - 1 - i) d
 push-next v vs σ i d h below = by_place (nat_lt i (length vs)) refl
   where
-    by_place : (b : Bool) → nat_lt i (length vs) ≡ b → push (side_by_side vs) (cons v σ) i ≡ get_or (v ∷ vs) (length (v ∷ vs) - 1 - i) d
+    by_place : (b : Bool) → nat_lt i (length vs) ≡ b →
+        push (side_by_side vs) (cons v σ) i ≡ get_or (v ∷ vs) (length (v ∷ vs) - 1 - i) d
     by_place true e =
         let at : i < length vs = ltb-true i (length vs) e in
         let k : suc (length vs - 1 - i) ≡ length (v ∷ vs) - 1 - i = omega arith in
@@ -204,7 +216,8 @@ push-next v vs σ i d h below = by_place (nat_lt i (length vs)) refl
         let here : 0 ≡ length (v ∷ vs) - 1 - i = omega arith in
         push-above vs (cons v σ) i past ∙ ap (cons v σ) none ∙ ap (λ n. get_or (v ∷ vs) n d) here
 
-pub push-below : (vs : List Term) (σ : ℕ → Term) (i : ℕ) (d : Term) → i < length vs → push (side_by_side vs) σ i ≡ get_or vs (length vs - 1 - i) d
+pub push-below : (vs : List Term) (σ : ℕ → Term) (i : ℕ) (d : Term) → i < length vs →
+    push (side_by_side vs) σ i ≡ get_or vs (length vs - 1 - i) d
 push-below [] σ i d h = absurd (omega arith)
 push-below (v ∷ vs) σ i d h = push-next v vs σ i d h (λ below. push-below vs (cons v σ) i d below)
 

@@ -11,7 +11,8 @@ some-injective e = cc e
 pub same-some : {A : Type 0} {o : Option A} {a b : A} → o ≡ Some a → o ≡ Some b → a ≡ b
 same-some d e = some-injective (sym d ∙ e)
 
-pub chain-some : {A B : Type 0} (o : Option A) (g : A → Option B) (b : B) → chain o g ≡ Some b → (a : A) × (o ≡ Some a) × (g a ≡ Some b)
+pub chain-some : {A B : Type 0} (o : Option A) (g : A → Option B) (b : B) → chain o g ≡ Some b →
+    (a : A) × (o ≡ Some a) × (g a ≡ Some b)
 chain-some None g b e = absurd (none≢some e)
 chain-some (Some a) g b e = (a, refl, e)
 

@@ -28,7 +28,12 @@ index_is_type = (0, Typed.variable tt tt (λ x k. refl))
 
 -- a constructor without fields, of a family without indices
 no_fields : (F : Family) → F.indices ≡ [] → ConstructorFormed prim_env F (plain_constructor [])
-no_fields F none = record { fields = TypesUpTo.none; one_each = subst (λ is. 0 ≡ length is) (sym none) refl; results = tt; no_tapes = tt }
+no_fields F none = record {
+  fields = TypesUpTo.none;
+  one_each = subst (λ is. 0 ≡ length is) (sym none) refl;
+  results = tt;
+  no_tapes = tt;
+}
 
 unit_formed : (f : GlobalId) → FamilyFormed prim_env f unit_family
 unit_formed f = record {
@@ -42,7 +47,8 @@ bool_formed : (f : GlobalId) → FamilyFormed prim_env f bool_family
 bool_formed f = record {
   params = Types.none;
   indices = TypesBeside.none;
-  constructors = ConstructorsFormed.more (no_fields bool_family refl) (ConstructorsFormed.more (no_fields bool_family refl) ConstructorsFormed.none);
+  constructors = ConstructorsFormed.more (no_fields bool_family refl)
+      (ConstructorsFormed.more (no_fields bool_family refl) ConstructorsFormed.none);
   positive = (tt, (tt, tt));
 }
 
@@ -58,7 +64,8 @@ line_formed : (f : GlobalId) → FamilyFormed prim_env f line_family
 line_formed f = record {
   params = Types.none;
   indices = TypesBeside.none;
-  constructors = ConstructorsFormed.more (no_fields line_family refl) (ConstructorsFormed.more got_formed ConstructorsFormed.none);
+  constructors = ConstructorsFormed.more (no_fields line_family refl)
+      (ConstructorsFormed.more got_formed ConstructorsFormed.none);
   positive = (tt, ((Good.absent (refl, tt), tt), tt));
 }
 
@@ -66,14 +73,18 @@ eq_formed : (f : GlobalId) → FamilyFormed prim_env f eq_family
 eq_formed f = record {
   params = Types.more (sort_is_type [] 0) (λ e. e, tt) (Types.more type_param_is_type tt Types.none);
   indices = TypesBeside.more index_is_type tt TypesBeside.none;
-  constructors = ConstructorsFormed.more (record { fields = TypesUpTo.none; one_each = refl; results = (omega arith, tt); no_tapes = (tt, tt) }) ConstructorsFormed.none;
+  constructors = ConstructorsFormed.more
+      (record { fields = TypesUpTo.none; one_each = refl; results = (omega arith, tt); no_tapes = (tt, tt) })
+      ConstructorsFormed.none;
   positive = (tt, tt);
 }
 
 -- one of a list of families, or one of those behind it
-first_or : {f : GlobalId} {F G : Family} (b : Bool) (o : Option Family) → FamilyFormed prim_env f F → (o ≡ Some G → FamilyFormed prim_env f G) →
+first_or : {f : GlobalId} {F G : Family} (b : Bool) (o : Option Family) → FamilyFormed prim_env f F →
+    (o ≡ Some G → FamilyFormed prim_env f G) →
     cond b (Some F) o ≡ Some G → FamilyFormed prim_env f G
-first_or {f} {F} {G} true o formed others e = let P : Family → Type 0 = λ H. FamilyFormed prim_env f H in subst P (cc e) formed
+first_or {f} {F} {G} true o formed others e = let P : Family → Type 0 =
+    λ H. FamilyFormed prim_env f H in subst P (cc e) formed
 first_or false o formed others e = others e
 
 none-is-no-family : {f : GlobalId} (F : Family) → None ≡ Some F → FamilyFormed prim_env f F
@@ -83,7 +94,9 @@ pub prim_formed : WellFormed prim_env
 prim_formed = record {
   prims = record { units = refl; truths = refl; lines = refl; equalities = refl };
   families = λ f F e.
-      first_or _ _ (unit_formed f) (first_or _ _ (bool_formed f) (first_or _ _ (line_formed f) (first_or _ _ (eq_formed f) (λ d. none-is-no-family F d)))) e;
+      first_or _ _ (unit_formed f)
+      (first_or _ _ (bool_formed f)
+      (first_or _ _ (line_formed f) (first_or _ _ (eq_formed f) (λ d. none-is-no-family F d)))) e;
   definitions = λ d D e. absurd (cc e);
 }
 

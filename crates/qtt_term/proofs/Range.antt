@@ -64,16 +64,22 @@ abbrev AllLits : List Lit → Type 0
 AllLits [] = Unit {0}
 AllLits (l ∷ ls) = InRange l × AllLits ls
 
-division_in_range : (x y : ℤ) → FitsSigned w64 x → (b : Bool) → AnswersInRange (cond b answer.DivisionByZero (number (int_wrapping_div w64 x y)))
+division_in_range : (x y : ℤ) → FitsSigned w64 x →
+    (b : Bool) → AnswersInRange (cond b answer.DivisionByZero (number (int_wrapping_div w64 x y)))
 division_in_range x y f true = tt
-division_in_range x y f false = word_fits (cast_unsigned w64 (int_div x y)) (bits_below (int_div x y) (le_trans (quotient_size x y) (size_of_fitting x f)))
+division_in_range x y f false =
+    word_fits (cast_unsigned w64 (int_div x y))
+    (bits_below (int_div x y) (le_trans (quotient_size x y) (size_of_fitting x f)))
 
-remainder_in_range : (x y : ℤ) → FitsSigned w64 y → (b : Bool) → int_eq y (pos 0) ≡ b → AnswersInRange (cond b answer.DivisionByZero (number (int_rem x y)))
+remainder_in_range : (x y : ℤ) → FitsSigned w64 y →
+    (b : Bool) → int_eq y (pos 0) ≡ b → AnswersInRange (cond b answer.DivisionByZero (number (int_rem x y)))
 remainder_in_range x y f true e = tt
 remainder_in_range x y f false e =
     fits_signed_from_abs w64 (int_rem x y) (lt_of_lt_of_le (rem_below x y (not_zero y e)) (size_of_fitting y f))
 
-of_numbers_in_range : (f : ℤ → ℤ → PrimAnswer) → ((x y : ℤ) → FitsSigned w64 x → FitsSigned w64 y → AnswersInRange (f x y)) → (ls : List Lit) → AllLits ls → AnswersInRange (of_numbers f ls)
+of_numbers_in_range : (f : ℤ → ℤ → PrimAnswer) →
+    ((x y : ℤ) → FitsSigned w64 x → FitsSigned w64 y → AnswersInRange (f x y)) →
+    (ls : List Lit) → AllLits ls → AnswersInRange (of_numbers f ls)
 of_numbers_in_range f g (literal.Int x ∷ literal.Int y ∷ []) h = g x y h.0 h.1.0
 of_numbers_in_range f g [] h = tt
 of_numbers_in_range f g (literal.Text s ∷ ls) h = tt
@@ -81,13 +87,15 @@ of_numbers_in_range f g (literal.Int x ∷ []) h = tt
 of_numbers_in_range f g (literal.Int x ∷ literal.Text s ∷ ls) h = tt
 of_numbers_in_range f g (literal.Int x ∷ literal.Int y ∷ l ∷ ls) h = tt
 
-of_number_in_range : (f : ℤ → PrimAnswer) → ((x : ℤ) → AnswersInRange (f x)) → (ls : List Lit) → AnswersInRange (of_number f ls)
+of_number_in_range : (f : ℤ → PrimAnswer) → ((x : ℤ) → AnswersInRange (f x)) →
+    (ls : List Lit) → AnswersInRange (of_number f ls)
 of_number_in_range f g (literal.Int x ∷ []) = g x
 of_number_in_range f g [] = tt
 of_number_in_range f g (literal.Text s ∷ ls) = tt
 of_number_in_range f g (literal.Int x ∷ l ∷ ls) = tt
 
-of_texts_in_range : (f : List ℕ → List ℕ → PrimAnswer) → ((s t : List ℕ) → AnswersInRange (f s t)) → (ls : List Lit) → AnswersInRange (of_texts f ls)
+of_texts_in_range : (f : List ℕ → List ℕ → PrimAnswer) → ((s t : List ℕ) → AnswersInRange (f s t)) →
+    (ls : List Lit) → AnswersInRange (of_texts f ls)
 of_texts_in_range f g (literal.Text s ∷ literal.Text t ∷ []) = g s t
 of_texts_in_range f g [] = tt
 of_texts_in_range f g (literal.Int x ∷ ls) = tt
@@ -96,11 +104,18 @@ of_texts_in_range f g (literal.Text s ∷ literal.Int x ∷ ls) = tt
 of_texts_in_range f g (literal.Text s ∷ literal.Text t ∷ l ∷ ls) = tt
 
 apply_in_range : (p : Primitive) (ls : List Lit) → AllLits ls → AnswersInRange (apply p ls)
-apply_in_range prim.AddInt ls h = of_numbers_in_range _ (λ x y f g. word_fits _ (mod-lt (cast_unsigned w64 x + cast_unsigned w64 y) word_positive)) ls h
-apply_in_range prim.SubInt ls h = of_numbers_in_range _ (λ x y f g. word_fits _ (mod-lt (cast_unsigned w64 x + (2 ^ 64 - cast_unsigned w64 y)) word_positive)) ls h
-apply_in_range prim.MulInt ls h = of_numbers_in_range _ (λ x y f g. word_fits _ (mod-lt (cast_unsigned w64 x * cast_unsigned w64 y) word_positive)) ls h
+apply_in_range prim.AddInt ls h =
+    of_numbers_in_range _
+    (λ x y f g. word_fits _ (mod-lt (cast_unsigned w64 x + cast_unsigned w64 y) word_positive)) ls h
+apply_in_range prim.SubInt ls h =
+    of_numbers_in_range _
+    (λ x y f g. word_fits _ (mod-lt (cast_unsigned w64 x + (2 ^ 64 - cast_unsigned w64 y)) word_positive)) ls h
+apply_in_range prim.MulInt ls h =
+    of_numbers_in_range _
+    (λ x y f g. word_fits _ (mod-lt (cast_unsigned w64 x * cast_unsigned w64 y) word_positive)) ls h
 apply_in_range prim.DivInt ls h = of_numbers_in_range _ (λ x y f g. division_in_range x y f (int_eq y (pos 0))) ls h
-apply_in_range prim.ModInt ls h = of_numbers_in_range _ (λ x y f g. remainder_in_range x y g (int_eq y (pos 0)) refl) ls h
+apply_in_range prim.ModInt ls h =
+    of_numbers_in_range _ (λ x y f g. remainder_in_range x y g (int_eq y (pos 0)) refl) ls h
 apply_in_range prim.EqInt ls h = of_numbers_in_range _ (λ x y f g. tt) ls h
 apply_in_range prim.LtInt ls h = of_numbers_in_range _ (λ x y f g. tt) ls h
 apply_in_range prim.AppendString ls h = of_texts_in_range _ (λ s t. tt) ls
@@ -151,7 +166,8 @@ mutual
   sub-in_range (var i) σ v h = v i
   sub-in_range (node F ts) σ v h = (h.0, subs-in_range ts (binders F) σ v h.1)
 
-  subs-in_range : (ts : Terms) (ns : List ℕ) (σ : ℕ → Term) → ValuesInRange σ → AllInRange ts → AllInRange (subs ns σ ts)
+  subs-in_range : (ts : Terms) (ns : List ℕ) (σ : ℕ → Term) → ValuesInRange σ → AllInRange ts →
+      AllInRange (subs ns σ ts)
   subs-in_range ε ns σ v h = tt
   subs-in_range (t ▸ ts) ns σ v h =
       (sub-in_range t (lifts (first ns) σ) (lifts-in_range (first ns) σ v) h.0, subs-in_range ts (rest ns) σ v h.1)
@@ -170,7 +186,8 @@ skip-in_range zero ts h = h
 skip-in_range (suc k) ε h = tt
 skip-in_range (suc k) (t ▸ ts) h = skip-in_range k ts h.1
 
-scrutinee-in_range : (ns : List ℕ) (ts : Terms) (s : Term) → AllInRange ts → scrutinee ns ts ≡ Some s → LiteralsInRange s
+scrutinee-in_range : (ns : List ℕ) (ts : Terms) (s : Term) → AllInRange ts → scrutinee ns ts ≡ Some s →
+    LiteralsInRange s
 scrutinee-in_range [] (t ▸ ε) s h e = subst LiteralsInRange (some-injective e) h.0
 scrutinee-in_range (k ∷ ns) (t ▸ ts) s h e = scrutinee-in_range ns ts s h.1 e
 scrutinee-in_range [] ε s h e = absurd (none≢some e)
@@ -184,7 +201,8 @@ con-in_range : (s : Term) (m : Made) → LiteralsInRange s → as_con s ≡ Some
 con-in_range (node (Form.con f c k) ts) m h e = subst MadeInRange (some-injective e) (skip-in_range k ts h.1)
 con-in_range _ m h e = absurd (none≢some e)
 
-branch-in_range : (c : ℕ) (ns : List ℕ) (ts fs : Terms) (t : Term) → AllInRange ts → AllInRange fs → branch_at c ns ts fs ≡ Some t → LiteralsInRange t
+branch-in_range : (c : ℕ) (ns : List ℕ) (ts fs : Terms) (t : Term) → AllInRange ts → AllInRange fs →
+    branch_at c ns ts fs ≡ Some t → LiteralsInRange t
 branch-in_range zero (k ∷ ns) (r ▸ ts) fs t h d e =
     let w = cond-some (eqb (size fs) k) (Some (sub (push fs var) r)) t e in
     subst LiteralsInRange (some-injective w.1) (sub-in_range r (push fs var) (push-in_range fs var d (λ i. tt)) h.0)
@@ -194,11 +212,13 @@ branch-in_range (suc c) [] ts fs t h d e = absurd (none≢some e)
 branch-in_range zero (k ∷ ns) ε fs t h d e = absurd (none≢some e)
 branch-in_range (suc c) (k ∷ ns) ε fs t h d e = absurd (none≢some e)
 
-select-in_range : (f : GlobalId) (ns : List ℕ) (ts : Terms) (m : Made) (t : Term) → AllInRange ts → MadeInRange m → select f ns ts m ≡ Some t → LiteralsInRange t
+select-in_range : (f : GlobalId) (ns : List ℕ) (ts : Terms) (m : Made) (t : Term) → AllInRange ts →
+    MadeInRange m → select f ns ts m ≡ Some t → LiteralsInRange t
 select-in_range f ns ts (Made.made g c fs) t h d e =
     let w = cond-some (same_id f g) (branch_at c ns ts fs) t e in branch-in_range c ns ts fs t h d w.1
 
-iota-in_range : (f : GlobalId) (ns : List ℕ) (ts : Terms) (t : Term) → AllInRange ts → iota f ns ts ≡ Some t → LiteralsInRange t
+iota-in_range : (f : GlobalId) (ns : List ℕ) (ts : Terms) (t : Term) → AllInRange ts → iota f ns ts ≡ Some t →
+    LiteralsInRange t
 iota-in_range f ns ε t h e = absurd (none≢some e)
 iota-in_range f ns (P ▸ ts) t h e =
     let r = chain-some (scrutinee ns ts) (λ s. chain (as_con s) (select f ns ts)) t e in
@@ -212,7 +232,8 @@ lam-in_range : (g : Term) (f : Function) → LiteralsInRange g → as_lam g ≡ 
 lam-in_range (node (Form.lam q) (A ▸ b ▸ ε)) f h e = subst FunctionInRange (some-injective e) h.1.1.0
 lam-in_range _ f h e = absurd (none≢some e)
 
-call-in_range : (p : Mult) (a : Term) (f : Function) (t : Term) → LiteralsInRange a → FunctionInRange f → call p a f ≡ Some t → LiteralsInRange t
+call-in_range : (p : Mult) (a : Term) (f : Function) (t : Term) → LiteralsInRange a → FunctionInRange f →
+    call p a f ≡ Some t → LiteralsInRange t
 call-in_range p a (Function.function q b) t h d e =
     let w = cond-some (same_mult p q) (Some (inst b a)) t e in
     subst LiteralsInRange (some-injective w.1) (sub-in_range b (cons a var) (cons-in_range a var h (λ i. tt)) d)
@@ -221,7 +242,8 @@ refl-in_range : (b t : Term) (m : Made) → LiteralsInRange b → when_refl b m 
 refl-in_range b t (Made.made f c fs) h e =
     let w = cond-some (same_id f eq_id && eqb c 0) (Some b) t e in subst LiteralsInRange (some-injective w.1) h
 
-contract-in_range : (E : Env) → BodiesInRange E → (F : Form) (ts : Terms) (t : Term) → contract E F ts ≡ Some t → AllInRange ts → LiteralsInRange t
+contract-in_range : (E : Env) → BodiesInRange E → (F : Form) (ts : Terms) (t : Term) → contract E F ts ≡ Some t →
+    AllInRange ts → LiteralsInRange t
 unfolding contract
 contract-in_range E bodies (Form.app q) (g ▸ a ▸ ε) t e h =
     let w = chain-some (as_lam g) (call q a) t e in call-in_range q a w.0 t h.1.0 (lam-in_range g w.0 h.0 w.1) w.2

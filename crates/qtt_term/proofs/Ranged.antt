@@ -10,7 +10,8 @@ pub joined_in_range : (ts ss : Terms) → AllInRange ts → AllInRange ss → Al
 joined_in_range ε ss h k = k
 joined_in_range (t ▸ ts) ss h k = (h.0, joined_in_range ts ss h.1 k)
 
-pub appended_in_range : (ts ss : List Term) → AllInRange (side_by_side ts) → AllInRange (side_by_side ss) → AllInRange (side_by_side (ts ++ ss))
+pub appended_in_range : (ts ss : List Term) → AllInRange (side_by_side ts) → AllInRange (side_by_side ss) →
+    AllInRange (side_by_side (ts ++ ss))
 appended_in_range [] ss h k = k
 appended_in_range (t ∷ ts) ss h k = (h.0, appended_in_range ts ss h.1 k)
 

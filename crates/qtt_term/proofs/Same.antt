@@ -35,10 +35,12 @@ mult-same ω = refl
 pub same_id-is : (f g : GlobalId) → same_id f g ≡ true → f ≡ g
 same_id-is f g e =
     let p = and_parts (eqb f.module.0 g.module.0) (eqb f.item g.item) e in
-    ap₂ (λ m i. record { «module» = record { 0 = m }; item = i }) (eqb-true f.module.0 g.module.0 p.0) (eqb-true f.item g.item p.1)
+    ap₂ (λ m i. record { «module» = record { 0 = m }; item = i }) (eqb-true f.module.0 g.module.0 p.0)
+    (eqb-true f.item g.item p.1)
 
 pub id-same : (f : GlobalId) → same_id f f ≡ true
-id-same f = and_from (eqb f.module.0 f.module.0) (eqb f.item f.item) (eq-eqb f.module.0 f.module.0 refl) (eq-eqb f.item f.item refl)
+id-same f = and_from (eqb f.module.0 f.module.0) (eqb f.item f.item) (eq-eqb f.module.0 f.module.0 refl)
+    (eq-eqb f.item f.item refl)
 
 pub same_id-exact : (f g : GlobalId) → Decides (same_id f g) (f ≡ g)
 same_id-exact f g = decided same_id same_id-is id-same f g
@@ -140,7 +142,8 @@ same_named-is (Named.def d) (Named.def e) h = ap Named.def (same_id-is d e h)
 same_named-is (Named.lit l) (Named.lit k) h = ap Named.lit (same_lit-is l k h)
 same_named-is (Named.prim_ty p) (Named.prim_ty r) h = ap Named.prim_ty (same_prim_ty-is p r h)
 same_named-is (Named.prim p) (Named.prim r) h = ap Named.prim (same_prim-is p r h)
-same_named-is (Named.act a) (Named.act b) h = ap Named.act (same_action-is a b h)
+same_named-is (Named.act a k) (Named.act b l) h =
+    let p = and_parts (same_action a b) (eqb k l) h in ap₂ Named.act (same_action-is a b p.0) (eqb-true k l p.1)
 same_named-is _ _ h = absurd (cc h)
 
 named-same : (n : Named) → same_named n n ≡ true
@@ -148,7 +151,7 @@ named-same (Named.def d) = id-same d
 named-same (Named.lit l) = lit-same l
 named-same (Named.prim_ty p) = prim_ty-same p
 named-same (Named.prim p) = prim-same p
-named-same (Named.act a) = action-same a
+named-same (Named.act a k) = and_from (same_action a a) (eqb k k) (action-same a) (eq-eqb k k refl)
 
 pub same_named-exact : (m n : Named) → Decides (same_named m n) (m ≡ n)
 same_named-exact m n = decided same_named same_named-is named-same m n
@@ -207,7 +210,8 @@ form-same (Form.lam q) = mult-same q
 form-same (Form.app q) = mult-same q
 form-same (Form.fam f) = id-same f
 form-same (Form.con f c k) =
-    and_from (same_id f f) (eqb c c && eqb k k) (id-same f) (and_from (eqb c c) (eqb k k) (eq-eqb c c refl) (eq-eqb k k refl))
+    and_from (same_id f f) (eqb c c && eqb k k) (id-same f)
+    (and_from (eqb c c) (eqb k k) (eq-eqb c c refl) (eq-eqb k k refl))
 form-same (Form.case q f k m ns) =
     and_from (same_mult q q) (same_id f f && (eqb k k && (eqb m m && same_counts ns ns))) (mult-same q)
     (and_from (same_id f f) (eqb k k && (eqb m m && same_counts ns ns)) (id-same f)

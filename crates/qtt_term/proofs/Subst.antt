@@ -20,10 +20,12 @@ mutual
   sub-ren (var i) σ ρ = refl
   sub-ren (node F ts) σ ρ = ap (node F) (subs-rens ts (binders F) σ ρ)
 
-  subs-rens : (ts : Terms) (ns : List ℕ) (σ : ℕ → Term) (ρ : ℕ → ℕ) → subs ns σ (rens ns ρ ts) ≡ subs ns (λ i. σ (ρ i)) ts
+  subs-rens : (ts : Terms) (ns : List ℕ) (σ : ℕ → Term) (ρ : ℕ → ℕ) →
+      subs ns σ (rens ns ρ ts) ≡ subs ns (λ i. σ (ρ i)) ts
   subs-rens ε ns σ ρ = refl
   subs-rens (t ▸ ts) ns σ ρ =
-      ap₂ ◌▸◌ (sub-ren t (lifts (first ns) σ) (lifts_ren (first ns) ρ) ∙ ap (λ f. sub f t) (lifts-after_ren (first ns) σ ρ))
+      ap₂ ◌▸◌ (sub-ren t (lifts (first ns) σ) (lifts_ren (first ns) ρ) ∙ ap (λ f. sub f t)
+      (lifts-after_ren (first ns) σ ρ))
       (subs-rens ts (rest ns) σ ρ)
 
 lift-var : (ρ : ℕ → ℕ) → (λ i. var (lift_ren ρ i)) ≡ lift (λ i. var (ρ i))
@@ -45,7 +47,8 @@ mutual
   rens-sub_var : (ts : Terms) (ns : List ℕ) (ρ : ℕ → ℕ) → rens ns ρ ts ≡ subs ns (λ i. var (ρ i)) ts
   rens-sub_var ε ns ρ = refl
   rens-sub_var (t ▸ ts) ns ρ =
-      ap₂ ◌▸◌ (ren-sub_var t (lifts_ren (first ns) ρ) ∙ ap (λ f. sub f t) (lifts-var (first ns) ρ)) (rens-sub_var ts (rest ns) ρ)
+      ap₂ ◌▸◌ (ren-sub_var t (lifts_ren (first ns) ρ) ∙ ap (λ f. sub f t) (lifts-var (first ns) ρ))
+      (rens-sub_var ts (rest ns) ρ)
 
 pub ren-is-sub : (ρ : ℕ → ℕ) (t : Term) → ren ρ t ≡ sub (λ i. var (ρ i)) t
 ren-is-sub ρ t = ren-sub_var t ρ
@@ -60,7 +63,8 @@ lift-then_ren ρ σ = fun_ext go
     go zero = refl
     go (suc i) = ren-ren (lift_ren ρ) suc (σ i) ∙ sym (ren-ren suc ρ (σ i))
 
-lifts-then_ren : (n : ℕ) (ρ : ℕ → ℕ) (σ : ℕ → Term) → (λ i. ren (lifts_ren n ρ) (lifts n σ i)) ≡ lifts n (λ i. ren ρ (σ i))
+lifts-then_ren : (n : ℕ) (ρ : ℕ → ℕ) (σ : ℕ → Term) →
+    (λ i. ren (lifts_ren n ρ) (lifts n σ i)) ≡ lifts n (λ i. ren ρ (σ i))
 lifts-then_ren zero ρ σ = refl
 lifts-then_ren (suc n) ρ σ = lifts-then_ren n (lift_ren ρ) (lift σ) ∙ ap (lifts n) (lift-then_ren ρ σ)
 
@@ -69,10 +73,12 @@ mutual
   ren-sub (var i) ρ σ = refl
   ren-sub (node F ts) ρ σ = ap (node F) (rens-subs ts (binders F) ρ σ)
 
-  rens-subs : (ts : Terms) (ns : List ℕ) (ρ : ℕ → ℕ) (σ : ℕ → Term) → rens ns ρ (subs ns σ ts) ≡ subs ns (λ i. ren ρ (σ i)) ts
+  rens-subs : (ts : Terms) (ns : List ℕ) (ρ : ℕ → ℕ) (σ : ℕ → Term) →
+      rens ns ρ (subs ns σ ts) ≡ subs ns (λ i. ren ρ (σ i)) ts
   rens-subs ε ns ρ σ = refl
   rens-subs (t ▸ ts) ns ρ σ =
-      ap₂ ◌▸◌ (ren-sub t (lifts_ren (first ns) ρ) (lifts (first ns) σ) ∙ ap (λ f. sub f t) (lifts-then_ren (first ns) ρ σ))
+      ap₂ ◌▸◌ (ren-sub t (lifts_ren (first ns) ρ) (lifts (first ns) σ) ∙ ap (λ f. sub f t)
+      (lifts-then_ren (first ns) ρ σ))
       (rens-subs ts (rest ns) ρ σ)
 
 lift-then_sub : (σ τ : ℕ → Term) → (λ i. sub (lift σ) (lift τ i)) ≡ lift (λ i. sub σ (τ i))
@@ -91,10 +97,12 @@ mutual
   sub-after (var i) σ τ = refl
   sub-after (node F ts) σ τ = ap (node F) (subs-after ts (binders F) σ τ)
 
-  pub subs-after : (ts : Terms) (ns : List ℕ) (σ τ : ℕ → Term) → subs ns σ (subs ns τ ts) ≡ subs ns (λ i. sub σ (τ i)) ts
+  pub subs-after : (ts : Terms) (ns : List ℕ) (σ τ : ℕ → Term) →
+      subs ns σ (subs ns τ ts) ≡ subs ns (λ i. sub σ (τ i)) ts
   subs-after ε ns σ τ = refl
   subs-after (t ▸ ts) ns σ τ =
-      ap₂ ◌▸◌ (sub-after t (lifts (first ns) σ) (lifts (first ns) τ) ∙ ap (λ f. sub f t) (lifts-then_sub (first ns) σ τ))
+      ap₂ ◌▸◌ (sub-after t (lifts (first ns) σ) (lifts (first ns) τ) ∙ ap (λ f. sub f t)
+      (lifts-then_sub (first ns) σ τ))
       (subs-after ts (rest ns) σ τ)
 
 pub sub-sub : (σ τ : ℕ → Term) (t : Term) → sub σ (sub τ t) ≡ sub (λ i. sub σ (τ i)) t
@@ -171,7 +179,8 @@ pub cons-ren : (σ : ℕ → Term) (a t : Term) → sub (cons a σ) (ren suc t) 
 cons-ren σ a t = sub-ren t (cons a σ) suc
 
 -- terms for variables that were kept
-pub push-lifts : (ts : Terms) (σ τ : ℕ → Term) → (λ i. sub (push ts σ) (lifts (size ts) τ i)) ≡ push ts (λ i. sub σ (τ i))
+pub push-lifts : (ts : Terms) (σ τ : ℕ → Term) →
+    (λ i. sub (push ts σ) (lifts (size ts) τ i)) ≡ push ts (λ i. sub σ (τ i))
 push-lifts ε σ τ = refl
 push-lifts (t ▸ ts) σ τ = push-lifts ts (cons t σ) (lift τ) ∙ ap (push ts) (lift-cons σ τ t)
 

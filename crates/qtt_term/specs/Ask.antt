@@ -1,5 +1,5 @@
--- What a judgement asks, in order, and how it ends: a judgement's table of premises is one such list of questions, from which come
--- both its answer within a budget and its meaning without one.
+-- What a judgement asks, in order, and how it ends: a judgement's table of premises is one such list of
+-- questions, from which come both its answer within a budget and its meaning without one.
 use Rattle.std.specs.Prelude.{◌≡◌, ℕ, List}
 use Rattle.qtt_term.specs.Term.{Term}
 use Rattle.qtt_term.specs.Signature.{Env}
@@ -8,7 +8,8 @@ use Rattle.qtt_term.specs.Question as question
 
 -- F is what a false premise leaves, P the place of a question, A the answer.
 -- head n t asks for the head of t, which stands under n variables, and goes on with it;
--- compare n t s asks whether t and s compare Equal, and goes on with one branch where they do, and with the other where they differ
+-- compare n t s asks whether t and s compare Equal, and goes on with one branch where they do, and with the other
+-- where they differ
 pub data Ask (F P A : Type 0) : Type 0 where
   done : A → Ask F P A
   fail : F → Ask F P A
@@ -38,7 +39,8 @@ unfoldable pub on_head : {F P A : Type 0} → question.Head → (Term → Ending
 on_head (question.Head.done h made) next out = next h
 on_head question.Head.spent next out = out
 
-unfoldable pub on_answer : {F P A : Type 0} → question.Answer → Ending F P A → Ending F P A → Ending F P A → Ending F P A
+unfoldable pub on_answer : {F P A : Type 0} → question.Answer → Ending F P A → Ending F P A → Ending F P A →
+    Ending F P A
 on_answer question.Answer.equal same differ out = same
 on_answer (question.Answer.different path) same differ out = differ
 on_answer question.Answer.spent same differ out = out
@@ -47,8 +49,10 @@ on_answer question.Answer.spent same differ out = out
 unfoldable pub within : {F P A : Type 0} → Env → ℕ → Ask F P A → Ending F P A
 within E n (Ask.done a) = Ending.ok a
 within E n (Ask.fail f) = Ending.fails f
-within E n (Ask.head p d t g) = on_head (question.head E n t) (λ h. within E n (g h)) (Ending.spent p (Question.head_of d t))
-within E n (Ask.compare p d t s m w) = on_answer (question.compare E n t s) (within E n m) (within E n w) (Ending.spent p (Question.compared d t s))
+within E n (Ask.head p d t g) =
+    on_head (question.head E n t) (λ h. within E n (g h)) (Ending.spent p (Question.head_of d t))
+within E n (Ask.compare p d t s m w) =
+    on_answer (question.compare E n t s) (within E n m) (within E n w) (Ending.spent p (Question.compared d t s))
 
 -- h is the head of t, after any number of contractions
 pub record HeadIs (E : Env) (t h : Term) : Type 0 where

@@ -85,7 +85,8 @@ literals (t ▸ ts) = chain (as_lit t) (λ l. chain (literals ts) (λ ls. Some (
 abbrev pub literal_term : Lit → Term
 literal_term l = node (Form.named (Named.lit l)) ε
 
--- the term that an answer gives; a division by 0, and literals of other kinds or another number than the table's, give none
+-- the term that an answer gives; a division by 0, and literals of other kinds or another number than the table's,
+-- give none
 abbrev pub answer_term : PrimAnswer → Option Term
 answer_term (answer.Value l) = Some (literal_term l)
 answer_term (answer.Truth b) = Some (truth b)

@@ -6,7 +6,7 @@ use Rattle.qtt_usage.specs.Mult.{𝟘, 𝟙, ω}
 use Rattle.qtt_usage.specs.Uses.{zero_use}
 use Rattle.qtt_term.specs.Term.{Io, Form, Term, Terms, var, node, ε, ◌▸◌, size, Sort}
 use Rattle.qtt_term.specs.Substitution.{AllBelow, Closed}
-use Rattle.qtt_term.specs.Signature.{Tele, Constructor, Family, Definition, Env, There, unit_id, bool_id, line_id, eq_id, unit_family, bool_family, line_family, eq_family, UnitTy, IoTy}
+use Rattle.qtt_term.specs.Signature.{Tele, Constructor, Family, Definition, Env, family_at, There, unit_id, bool_id, line_id, eq_id, unit_family, bool_family, line_family, eq_family, UnitTy, IoTy}
 use Rattle.qtt_term.specs.Contraction.{Conv}
 use Rattle.qtt_term.specs.Judgement.{Ctx, ext, Part, Usable, Typed, IsType}
 use Rattle.qtt_term.specs.Positivity.{Positive}
@@ -29,7 +29,8 @@ abbrev mutual
 -- each is a type under those before it, and has no Tape
 pub data Types (E : Env) : Ctx → Tele → Type 0 where
   none : {Γ : Ctx} → Types E Γ []
-  more : {Γ : Ctx} {q : Mult} {T : Term} {Θ : Tele} → IsType E Γ T → NoTape T → Types E ((q, T) ∷ Γ) Θ → Types E Γ ((q, T) ∷ Θ)
+  more : {Γ : Ctx} {q : Mult} {T : Term} {Θ : Tele} → IsType E Γ T → NoTape T → Types E ((q, T) ∷ Γ) Θ →
+      Types E Γ ((q, T) ∷ Θ)
 
 -- each is a type in this context alone, and has no Tape
 pub data TypesBeside (E : Env) (Γ : Ctx) : List Term → Type 0 where
@@ -39,12 +40,23 @@ pub data TypesBeside (E : Env) (Γ : Ctx) : List Term → Type 0 where
 -- each is a type of level at most l under those before it, and has no Tape
 pub data TypesUpTo (E : Env) (l : ℕ) : Ctx → Tele → Type 0 where
   none : {Γ : Ctx} → TypesUpTo E l Γ []
-  more : {Γ : Ctx} {q : Mult} {T : Term} {Θ : Tele} {i : ℕ} → Typed E Part.erased Γ T (Sort i) zero_use → i ≤ l → NoTape T →
+  more : {Γ : Ctx} {q : Mult} {T : Term} {Θ : Tele} {i : ℕ} → Typed E Part.erased Γ T (Sort i) zero_use → i ≤ l →
+      NoTape T →
       TypesUpTo E l ((q, T) ∷ Γ) Θ → TypesUpTo E l Γ ((q, T) ∷ Θ)
 
+-- ---- results
+-- the result of each constructor has so many terms
+abbrev pub ResultsAre : ℕ → List Constructor → Type 0
+ResultsAre n [] = Unit {0}
+ResultsAre n (c ∷ cs) = (size c.results ≡ n) × ResultsAre n cs
+
+-- the result of each constructor of each family has a term for each index
+abbrev pub ResultsCounted : Env → Type 0
+ResultsCounted E = (f : GlobalId) → ResultsAre (length (family_at E f).indices) (family_at E f).constructors
+
 -- ---- families and definitions
--- fields are types of level at most the family's, under the parameters; there is one result for each index, in which no variables
--- are free but parameters and fields
+-- fields are types of level at most the family's, under the parameters; there is one result for each index, in
+-- which no variables are free but parameters and fields
 pub record ConstructorFormed (E : Env) (F : Family) (c : Constructor) : Type 0 where
   pub fields : TypesUpTo E F.level (ext [] F.params) c.fields
   pub one_each : size c.results ≡ length F.indices
@@ -53,7 +65,8 @@ pub record ConstructorFormed (E : Env) (F : Family) (c : Constructor) : Type 0 w
 
 pub data ConstructorsFormed (E : Env) (F : Family) : List Constructor → Type 0 where
   none : ConstructorsFormed E F []
-  more : {c : Constructor} {cs : List Constructor} → ConstructorFormed E F c → ConstructorsFormed E F cs → ConstructorsFormed E F (c ∷ cs)
+  more : {c : Constructor} {cs : List Constructor} → ConstructorFormed E F c → ConstructorsFormed E F cs →
+      ConstructorsFormed E F (c ∷ cs)
 
 pub record FamilyFormed (E : Env) (f : GlobalId) (F : Family) : Type 0 where
   pub params : Types E [] F.params
@@ -67,7 +80,8 @@ part_of 𝟘 = Part.erased
 part_of 𝟙 = Part.run
 part_of ω = Part.run
 
--- its multiplicity is 0 or many, its type is a type under nothing, and its body, where there is one, has that type with use zero
+-- its multiplicity is 0 or many, its type is a type under nothing, and its body, where there is one, has that
+-- type with use zero
 pub record DefinitionFormed (E : Env) (D : Definition) : Type 0 where
   pub mult : D.mult ≢ 𝟙
   pub is_type : IsType E [] D.type

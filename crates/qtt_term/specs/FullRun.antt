@@ -1,4 +1,5 @@
--- Full runs: what a main does to the lines of its input, the lines of its output and the tapes (open file handles).
+-- Full runs: what a main does to the lines of its input, the lines of its output and the tapes (open file
+-- handles).
 use Rattle.std.specs.Prelude.{ℕ, zero, suc, List, [], ◌∷◌, ◌++◌, length, Option, Some, None, cond}
 use Rattle.qtt_base.specs.declared.place.GlobalId.{GlobalId}
 use Rattle.qtt_prims.specs.Lines.{line_of, after_line, is_line}
@@ -14,7 +15,8 @@ pub data Event : Type 0 where
   wrote : ℕ → List ℕ → Event
   closed_tape : ℕ → Event
 
--- a term, the continuations that wait (the newest first), the rest of the input, the events so far, and the tapes by their numbers
+-- a term, the continuations that wait (the newest first), the rest of the input, the events so far, and the tapes
+-- by their numbers
 pub record Config : Type 0 where
   pub term : Term
   pub waiting : List Term
@@ -35,13 +37,13 @@ pub data Turn : Type 0 where
 
 -- ---- what an action gives
 abbrev pub pure_unit : Term
-pure_unit = Act (Action.pure Io.io) (UnitTy ▸ MkUnit ▸ ε)
+pure_unit = Act (Action.pure Io.io) 1 (UnitTy ▸ MkUnit ▸ ε)
 
 abbrev pub pure_handle : ℕ → Term
-pure_handle h = Act (Action.pure Io.io1) (HandleTy ▸ Tape h ▸ ε)
+pure_handle h = Act (Action.pure Io.io1) 1 (HandleTy ▸ Tape h ▸ ε)
 
 abbrev pub pure_line : Term → Term
-pure_line l = Act (Action.pure Io.io) (LineTy ▸ l ▸ ε)
+pure_line l = Act (Action.pure Io.io) 1 (LineTy ▸ l ▸ ε)
 
 -- ---- tapes
 -- the tape of this number, changed, where it is open
@@ -58,7 +60,11 @@ resume m v c (k ∷ ks) = Turn.goes (record c { term = App (mult_of m) k v; wait
 abbrev pub read : Config → List ℕ → Turn
 read c [] = Turn.goes (record c { term = pure_line Eof })
 read c (b ∷ bs) =
-    cond (is_line (line_of (b ∷ bs))) (Turn.goes (record c { term = pure_line (Got (TextLit (line_of (b ∷ bs)))); input = after_line (b ∷ bs) })) (Turn.halts (Verdict.trapped Cause.bad_input_line))
+    cond (is_line (line_of (b ∷ bs)))
+    (Turn.goes (record c {
+      term = pure_line (Got (TextLit (line_of (b ∷ bs))));
+      input = after_line (b ∷ bs);
+    })) (Turn.halts (Verdict.trapped Cause.bad_input_line))
 
 -- a write or a close, which gives t and is event e
 abbrev pub use_tape : Config → Term → Event → Option (List Taped) → Turn
@@ -67,14 +73,21 @@ use_tape c t e None = Turn.halts Verdict.stuck
 
 -- what one contraction does to an action that is a value; a value that no row takes is stuck
 abbrev pub perform : Config → Term → Turn
-perform c (Act (Action.bind m n) (A ▸ B ▸ t ▸ k ▸ ε)) = Turn.goes (record c { term = t; waiting = k ∷ c.waiting })
-perform c (Act (Action.pure m) (A ▸ v ▸ ε)) = resume m v c c.waiting
-perform c (Act Action.put_line (TextLit s ▸ ε)) = Turn.goes (record c { term = pure_unit; events = c.events ++ Event.line s ∷ [] })
-perform c (Act Action.get_line ε) = read c c.input
-perform c (Act Action.opens (TextLit s ▸ ε)) =
-    Turn.goes (record c { term = pure_handle (length c.tapes); events = c.events ++ Event.opened s ∷ []; tapes = c.tapes ++ new_tape s ∷ [] })
-perform c (Act Action.writes (Tape h ▸ TextLit s ▸ ε)) = use_tape c (pure_handle h) (Event.wrote h s) (at_open h (with_line s) c.tapes)
-perform c (Act Action.closes (Tape h ▸ ε)) = use_tape c pure_unit (Event.closed_tape h) (at_open h shut c.tapes)
+perform c (Act (Action.bind m n) k (A ▸ B ▸ t ▸ next ▸ ε)) =
+    Turn.goes (record c { term = t; waiting = next ∷ c.waiting })
+perform c (Act (Action.pure m) k (A ▸ v ▸ ε)) = resume m v c c.waiting
+perform c (Act Action.put_line k (TextLit s ▸ ε)) =
+    Turn.goes (record c { term = pure_unit; events = c.events ++ Event.line s ∷ [] })
+perform c (Act Action.get_line k ε) = read c c.input
+perform c (Act Action.opens k (TextLit s ▸ ε)) =
+    Turn.goes (record c {
+      term = pure_handle (length c.tapes);
+      events = c.events ++ Event.opened s ∷ [];
+      tapes = c.tapes ++ new_tape s ∷ [];
+    })
+perform c (Act Action.writes k (Tape h ▸ TextLit s ▸ ε)) =
+    use_tape c (pure_handle h) (Event.wrote h s) (at_open h (with_line s) c.tapes)
+perform c (Act Action.closes k (Tape h ▸ ε)) = use_tape c pure_unit (Event.closed_tape h) (at_open h shut c.tapes)
 perform c _ = Turn.halts Verdict.stuck
 
 abbrev pub take_turn : Config → Outcome → Turn

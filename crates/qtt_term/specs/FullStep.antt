@@ -1,4 +1,5 @@
--- Full evaluation: call by value, left to right, by substitution of whole terms. What is at 0 is kept and never evaluated.
+-- Full evaluation: call by value, left to right, by substitution of whole terms. What is at 0 is kept and never
+-- evaluated.
 use Rattle.std.specs.Prelude.{List, ◌∷◌, Option, Some, None}
 use Rattle.qtt_usage.specs.declared.mult.Mult.{Mult}
 use Rattle.qtt_usage.specs.Mult.{𝟘, 𝟙, ω}

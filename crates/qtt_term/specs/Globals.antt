@@ -1,11 +1,12 @@
 -- The environment that the code's families and definitions stand for.
-use Rattle.std.specs.Prelude.{◌≡◌, List, map, Some, None, option_map, is_none, IsTrue, Bool, ◌&&◌, eqb}
+use Rattle.std.specs.Prelude.{◌≡◌, ◌<◌, ◌^◌, length, List, map, Some, None, option_map, is_none, IsTrue, Bool, ◌&&◌, eqb}
 use Rattle.std.specs.List.{list_all}
 use Rattle.qtt_base.specs.declared.place.GlobalId.{GlobalId}
 use Rattle.qtt_term.specs.declared.globals.Globals.{Globals}
+use Rattle.qtt_term.specs.declared.items.Family as code_family
 use Rattle.qtt_term.specs.Signature.{Env}
 use Rattle.qtt_term.specs.Keyed.{with_id, ids_differ}
-use Rattle.qtt_term.specs.Items.{FamilyEntry, DefinitionEntry, family_entry, definition_entry, family_id, definition_id, constructor_of, ids}
+use Rattle.qtt_term.specs.Items.{FamilyEntry, DefinitionEntry, family, results_counted, family_entry, definition_entry, family_id, definition_id, constructor_of, ids}
 
 -- the families and the definitions, each in the order of their ids
 abbrev pub families : Globals → List FamilyEntry
@@ -23,7 +24,8 @@ env g = record {
 -- no item has this id
 abbrev pub is_absent : Globals → GlobalId → Bool
 is_absent g id =
-    is_none (with_id family_id id (families g)) && (is_none (constructor_of (families g) id) && is_none (with_id definition_id id (definitions g)))
+    is_none (with_id family_id id (families g)) &&
+    (is_none (constructor_of (families g) id) && is_none (with_id definition_id id (definitions g)))
 
 abbrev pub IsAbsent : Globals → GlobalId → Type 0
 IsAbsent g id = IsTrue (is_absent g id)
@@ -33,6 +35,13 @@ pub record IsNew (g : Globals) (F : FamilyEntry) : Type 0 where
   pub differ : IsTrue (ids_differ (ids F))
   pub one_module : IsTrue (list_all (λ id. eqb id.module.0 F.id.module.0) (ids F))
   pub absent : IsTrue (list_all (is_absent g) (ids F))
+
+-- what is asked of a family that is added: its constructors are numbered by 32 bits, its ids are new, and the
+-- result of each constructor has one term for each index
+pub record CanAdd (g : Globals) (F : code_family.Family) : Type 0 where
+  pub count : length F.constructors.items < 2 ^ 32
+  pub new_ids : IsNew g (family_entry F)
+  pub counted : IsTrue (results_counted (family F))
 
 -- a definition has this id, and it has no body
 abbrev pub IsOpen : Globals → GlobalId → Type 0

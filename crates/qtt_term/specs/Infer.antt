@@ -1,16 +1,18 @@
 -- The core judgement as a list of questions: the type and the use of a term, premise by premise.
--- Components are taken in their order, and each question is asked as soon as its terms are known: for a head where a type must be a
--- function type, a Sort or a family, and for a comparison of the found type with the wanted one where a type must be a given type.
+-- Components are taken in their order, and each question is asked as soon as its terms are known: for a head
+-- where a type must be a function type, a Sort or a family, and for a comparison of the found type with the
+-- wanted one where a type must be a given type.
 use Rattle.std.specs.Prelude.{ℕ, suc, max, ◌+◌, ◌^◌, ◌-◌, nat_lt, Bool, true, false, ◌&&◌, cond, eqb, List, [], ◌∷◌, ◌++◌, length, drop, Option, Some, None, slice_get}
 use Rattle.qtt_base.specs.declared.place.GlobalId.{GlobalId}
 use Rattle.qtt_usage.specs.declared.mult.Mult.{Mult}
 use Rattle.qtt_usage.specs.Mult.{𝟘, fits, same_mult}
 use Rattle.qtt_usage.specs.Usage.{usage_sum, usage_join, usage_scale, no_usage, usage_unit, usage_at}
-use Rattle.qtt_term.specs.Term.{Named, Form, Term, Terms, var, node, ε, ◌▸◌, size, skip, ◌+++◌, Sort, Pi, Lam, Trap, same_id}
+use Rattle.qtt_term.specs.Term.{Named, Form, Term, Terms, var, node, ε, ◌▸◌, size, skip, ◌+++◌, Sort, Pi, same_id}
 use Rattle.qtt_term.specs.Substitution.{sub, cons, push, inst, closed}
-use Rattle.qtt_term.specs.Signature.{Tele, Env, ConSig, FamSig, signature, fam_at, EqTy, Refl, HandleTy}
+use Rattle.qtt_term.specs.Signature.{Tele, Env, ConSig, FamSig, type_arguments, signature, fam_at, EqTy, Refl, HandleTy}
 use Rattle.qtt_term.specs.Question.{same_counts}
 use Rattle.qtt_term.specs.Judgement.{Ctx, Part, mult_at, type_at, ext, sub_binds, scale, erase_binds, under, branch_type}
+use Rattle.qtt_term.specs.Accepted.{is_dead}
 use Rattle.qtt_term.specs.Ask.{Ask, ◌>>=◌}
 use Rattle.qtt_term.specs.declared.rule.Rule.{Rule}
 use Rattle.qtt_term.specs.declared.rule.Rule.TheVariants as rule
@@ -85,18 +87,15 @@ usable _ _ = true
 
 abbrev pub named_there : Env → Named → Bool
 named_there E (Named.def d) = is_there (E.definition d)
-named_there E _ = true
+named_there E (Named.lit l) = true
+named_there E (Named.prim_ty p) = true
+named_there E (Named.prim p) = true
+named_there E (Named.act a k) = eqb k (type_arguments a)
 
 -- one use of a variable, in the run part
 abbrev pub use_at : Part → ℕ → ℕ → List Mult
 use_at Part.run n i = usage_unit n i
 use_at Part.erased n i = no_usage n
-
--- nothing is used by what is dead: a Trap, or a function whose body is dead
-abbrev pub is_dead : Term → Bool
-is_dead (Trap A) = true
-is_dead (Lam q A b) = is_dead b
-is_dead _ = false
 
 -- the uses of the newest binders fit, the newest first
 abbrev pub binders_fit : List Mult → List Mult → Bool
@@ -164,7 +163,7 @@ rule_of (Named.def d) = rule.Def
 rule_of (Named.lit l) = rule.Lit
 rule_of (Named.prim_ty p) = rule.PrimTy
 rule_of (Named.prim p) = rule.Prim
-rule_of (Named.act a) = rule.Act
+rule_of (Named.act a k) = rule.Act
 
 -- the rule of a form whose list of components has another length than its table's
 abbrev pub rule_at : Form → Rule
@@ -188,10 +187,12 @@ abbrev pub field_counts : List ConSig → List ℕ
 field_counts [] = []
 field_counts (c ∷ cs) = length c.fields ∷ field_counts cs
 
--- a Case has its family's numbers of parameters and of binders of motive and branches, one branch for each constructor, and a scrutinee
-abbrev pub case_shaped : FamSig → ℕ → ℕ → List ℕ → Terms → Bool
-case_shaped S k m ns ts =
-    eqb k (length S.params) && (eqb m (length S.motive) && (same_counts ns (field_counts S.constructors) && eqb (size ts) (k + (2 + length ns))))
+-- a Case has its family's numbers of parameters and of binders of motive and branches, one branch for each
+-- constructor, and a scrutinee
+abbrev pub case_shaped : FamSig → ℕ → ℕ → List ℕ → ℕ → Bool
+case_shaped S k m ns n =
+    eqb k (length S.params) &&
+    (eqb m (length S.motive) && (same_counts ns (field_counts S.constructors) && eqb n (k + (2 + length ns))))
 
 -- a Case's multiplicity and family, and what stands for the family's parameters
 pub record CaseOf : Type 0 where
@@ -227,11 +228,12 @@ abbrev mutual
     u ← arguments E p Γ (family_wants (fam_at E f)) closed ts
     Ask.done (inferred (Sort (fam_at E f).level) u)
   infer E p Γ (node (Form.con f n k) ts) = constructor_at (slice_get (fam_at E f).constructors n) (λ c. do
-    shaped ← need (eqb k (length (fam_at E f).params) && eqb (size ts) (length (constructor_wants (fam_at E f) c))) (at rule.Con 1)
+    shaped ← need (eqb k (length (fam_at E f).params) && eqb (size ts)
+        (length (constructor_wants (fam_at E f) c))) (at rule.Con 1)
     u ← arguments E p Γ (constructor_wants (fam_at E f) c) closed ts
     Ask.done (inferred (sub (push ts closed) c.result) u))
   infer E p Γ (node (Form.case q f k m ns) ts) = do
-    shaped ← need (is_there (E.family f) && (usable p q && case_shaped (fam_at E f) k m ns ts)) (at rule.Case 1)
+    shaped ← need (is_there (E.family f) && (usable p q && case_shaped (fam_at E f) k m ns (size ts))) (at rule.Case 1)
     case_params E p Γ (record { mult = q; id = f; family = fam_at E f }) (fam_at E f).params closed ts
   infer E p Γ (node (Form.delete q) (A ▸ s ▸ P ▸ b ▸ e ▸ ε)) = do
     used ← need (usable p q) (at rule.Delete 1)
@@ -242,7 +244,8 @@ abbrev mutual
     w ← has Γ (infer E (under p q) Γ e) (EqTy A s s) (at rule.Delete 6)
     Ask.done (inferred (inst P e) (usage_sum (usage_scale q w) u))
   infer E p Γ (node (Form.named n) ts) = do
-    there ← need (named_there E n && (usable p (signature E n).mult && eqb (size ts) (length (signature E n).arguments))) (at (rule_of n) 1)
+    there ← need (named_there E n &&
+        (usable p (signature E n).mult && eqb (size ts) (length (signature E n).arguments))) (at (rule_of n) 1)
     u ← arguments E p Γ (wanted (at (rule_of n) 1) (signature E n).arguments) closed ts
     Ask.done (inferred (sub (push ts closed) (signature E n).type) u)
   infer E p Γ (node Form.trap (A ▸ ε)) = do
@@ -264,12 +267,14 @@ abbrev mutual
     u ← has Γ (infer E Part.erased Γ a) (sub σ b.1) (at rule.Case 2)
     case_params E p Γ c Θ (cons a σ) ts
   case_params E p Γ c [] σ (P ▸ ts) = do
-    l ← type_of (ext Γ (sub_binds σ c.family.motive)) (infer E Part.erased (ext Γ (sub_binds σ c.family.motive)) P) (at rule.Case 3)
+    l ← type_of (ext Γ (sub_binds σ c.family.motive))
+        (infer E Part.erased (ext Γ (sub_binds σ c.family.motive)) P) (at rule.Case 3)
     case_branches E p Γ c σ P c.family.constructors ts None
   case_params E p Γ c Θ σ ε = Ask.fail (at rule.Case 1)
 
   -- branches in order, with the join of those before, and then the scrutinee
-  pub case_branches : Env → Part → Ctx → CaseOf → (ℕ → Term) → Term → List ConSig → Terms → Option (List Mult) → Asks Inferred
+  pub case_branches : Env → Part → Ctx → CaseOf → (ℕ → Term) → Term → List ConSig → Terms → Option (List Mult) →
+      Asks Inferred
   case_branches E p Γ c σ P (d ∷ ds) (b ▸ ts) joined = do
     j ← infer E p (ext Γ (sub_binds σ (scale c.mult d.fields))) b
     same ← agree (ext Γ (sub_binds σ (scale c.mult d.fields))) j.type (branch_type σ d P) (at rule.Case 4)
@@ -279,5 +284,6 @@ abbrev mutual
     j ← infer E (under p c.mult) Γ s
     xs ← family_of Γ c.id (length (family_wants c.family)) j.type (at rule.Case 6)
     same ← agree Γ j.type (sub (push (skip (length c.family.params) xs) σ) c.family.self) (at rule.Case 6)
-    Ask.done (inferred (sub (push (skip (length c.family.params) xs +++ (s ▸ ε)) var) P) (usage_sum (usage_scale c.mult j.uses) (joined_use (length Γ) joined)))
+    Ask.done (inferred (sub (push (skip (length c.family.params) xs +++ (s ▸ ε)) var) P)
+        (usage_sum (usage_scale c.mult j.uses) (joined_use (length Γ) joined)))
   case_branches E p Γ c σ P _ _ joined = Ask.fail (at rule.Case 1)

@@ -84,7 +84,8 @@ abbrev pub UseIs : Part → Ctx → Use → Use → Type 0
 UseIs Part.run Γ w u = (x : Key) → KeyIn Γ x → u x ≡ w x
 UseIs Part.erased Γ w u = (x : Key) → KeyIn Γ x → u x ≡ 𝟘
 
--- ---- what a rule asks of a component: binders, a type, a multiplicity, whether it is one of several branches, and its use
+-- ---- what a rule asks of a component: binders, a type, a multiplicity, whether it is one of several branches,
+-- and its use
 pub record Judged : Type 0 where
   pub binds : Tele
   pub type : Term
@@ -132,37 +133,46 @@ pub data Args : Tele → (ℕ → Term) → Terms → List Judged → Type 0 whe
 
 -- the same after erased parameters; the last index is S with all of them in their places
 pub data ParamsThenArgs (Ξ : Tele) : Tele → (ℕ → Term) → Terms → List Judged → Term → Term → Type 0 where
-  param : {q : Mult} {T : Term} {Θ : Tele} {σ : ℕ → Term} {a : Term} {ts : Terms} {js : List Judged} {u : Use} {S R : Term} →
-      ParamsThenArgs Ξ Θ (cons a σ) ts js S R → ParamsThenArgs Ξ ((q, T) ∷ Θ) σ (a ▸ ts) (judged [] (sub σ T) 𝟘 u ∷ js) S R
-  done : {σ : ℕ → Term} {ts : Terms} {js : List Judged} {S : Term} → Args Ξ σ ts js → ParamsThenArgs Ξ [] σ ts js S (sub (push ts σ) S)
+  param : {q : Mult} {T : Term} {Θ : Tele} {σ : ℕ → Term} {a : Term} {ts : Terms} {js : List Judged} {u : Use}
+      {S R : Term} →
+      ParamsThenArgs Ξ Θ (cons a σ) ts js S R →
+      ParamsThenArgs Ξ ((q, T) ∷ Θ) σ (a ▸ ts) (judged [] (sub σ T) 𝟘 u ∷ js) S R
+  done : {σ : ℕ → Term} {ts : Terms} {js : List Judged} {S : Term} → Args Ξ σ ts js →
+      ParamsThenArgs Ξ [] σ ts js S (sub (push ts σ) S)
 
 -- the type of a branch: the motive at the constructor's result indices and its Con
 abbrev pub branch_type : (ℕ → Term) → ConSig → Term → Term
 branch_type σ c P = sub (push (subs [] (lifts (length c.fields) σ) c.targets) (λ i. var (shift (length c.fields) i))) P
 
--- one branch for each constructor, under its fields at q times their multiplicities; then the scrutinee, of the family at the
--- parameters and some indices; the last index is the motive at these indices and the scrutinee
-pub data Branches (S : FamSig) (q : Mult) (σ : ℕ → Term) (P : Term) : List ConSig → List ℕ → Terms → List Judged → Term → Type 0 where
-  each : {c : ConSig} {cs : List ConSig} {n : ℕ} {ns : List ℕ} {b : Term} {ts : Terms} {js : List Judged} {w : Use} {R : Term} →
+-- one branch for each constructor, under its fields at q times their multiplicities; then the scrutinee, of the
+-- family at the parameters and some indices; the last index is the motive at these indices and the scrutinee
+pub data Branches (S : FamSig) (q : Mult) (σ : ℕ → Term) (P : Term) : List ConSig → List ℕ → Terms → List Judged →
+    Term → Type 0 where
+  each : {c : ConSig} {cs : List ConSig} {n : ℕ} {ns : List ℕ} {b : Term} {ts : Terms} {js : List Judged}
+      {w : Use} {R : Term} →
       size c.targets ≡ length S.motive → Branches S q σ P cs ns ts js R →
       Branches S q σ P (c ∷ cs) (n ∷ ns) (b ▸ ts) (branch (sub_binds σ (scale q c.fields)) (branch_type σ c P) w ∷ js) R
   scrutinee : {s : Term} (is : Terms) {w : Use} → size (is +++ (s ▸ ε)) ≡ length S.motive →
       Branches S q σ P [] [] (s ▸ ε) (judged [] (sub (push is σ) S.self) q w ∷ []) (sub (push (is +++ (s ▸ ε)) var) P)
 
--- erased parameters, the erased motive, which has a Sort as type, branches and the scrutinee; with how many parameters there are,
--- and the binders of motive and branches
+-- erased parameters, the erased motive, which has a Sort as type, branches and the scrutinee; with how many
+-- parameters there are, and the binders of motive and branches
 pub data Cases (S : FamSig) (q : Mult) : Tele → (ℕ → Term) → ℕ → ℕ → List ℕ → Terms → List Judged → Term → Type 0 where
-  param : {r : Mult} {T : Term} {Θ : Tele} {σ : ℕ → Term} {k m : ℕ} {ns : List ℕ} {a : Term} {ts : Terms} {js : List Judged} {u : Use} {R : Term} →
-      Cases S q Θ (cons a σ) k m ns ts js R → Cases S q ((r, T) ∷ Θ) σ (suc k) m ns (a ▸ ts) (judged [] (sub σ T) 𝟘 u ∷ js) R
+  param : {r : Mult} {T : Term} {Θ : Tele} {σ : ℕ → Term} {k m : ℕ} {ns : List ℕ} {a : Term} {ts : Terms}
+      {js : List Judged} {u : Use} {R : Term} →
+      Cases S q Θ (cons a σ) k m ns ts js R →
+      Cases S q ((r, T) ∷ Θ) σ (suc k) m ns (a ▸ ts) (judged [] (sub σ T) 𝟘 u ∷ js) R
   motive : {σ : ℕ → Term} {ns : List ℕ} {P : Term} {ts : Terms} {js : List Judged} {u : Use} {l : ℕ} {R : Term} →
       Branches S q σ P S.constructors ns ts js R →
       Cases S q [] σ zero (length S.motive) ns (P ▸ ts) (judged (sub_binds σ S.motive) (Sort l) 𝟘 u ∷ js) R
 
--- ---- the rules but for variables and conversion: form, components, what is asked of each component, type, and use of its own
+-- ---- the rules but for variables and conversion: form, components, what is asked of each component, type, and
+-- use of its own
 pub data Rule (E : Env) (p : Part) : Form → Terms → List Judged → Term → Use → Type 0 where
   sort : {l : ℕ} → Rule E p (Form.sort l) ε [] (Sort (suc l)) zero_use
   pi : {q : Mult} {A B : Term} {i j : ℕ} {u w : Use} →
-      Rule E p (Form.pi q) (A ▸ B ▸ ε) (judged [] (Sort i) 𝟘 u ∷ judged ((q, A) ∷ []) (Sort j) 𝟘 w ∷ []) (Sort (max i j)) zero_use
+      Rule E p (Form.pi q) (A ▸ B ▸ ε) (judged [] (Sort i) 𝟘 u ∷ judged ((q, A) ∷ []) (Sort j) 𝟘 w ∷ [])
+      (Sort (max i j)) zero_use
   lam : {q : Mult} {A B b : Term} {i : ℕ} {u w : Use} →
       Rule E p (Form.lam q) (A ▸ b ▸ ε) (judged [] (Sort i) 𝟘 u ∷ judged ((q, A) ∷ []) B 𝟙 w ∷ []) (Pi q A B) zero_use
   app : {q : Mult} {A B f a : Term} {u w : Use} →
@@ -170,16 +180,20 @@ pub data Rule (E : Env) (p : Part) : Form → Terms → List Judged → Term →
   fam : {f : GlobalId} {ts : Terms} {js : List Judged} {R : Term} → There (E.family f) →
       ParamsThenArgs (erase_binds (fam_at E f).indices) (fam_at E f).params closed ts js (Sort (fam_at E f).level) R →
       Rule E p (Form.fam f) ts js R zero_use
-  con : {f : GlobalId} {n : ℕ} {c : ConSig} {ts : Terms} {js : List Judged} {R : Term} → IsCon (fam_at E f).constructors n c →
+  con : {f : GlobalId} {n : ℕ} {c : ConSig} {ts : Terms} {js : List Judged} {R : Term} →
+      IsCon (fam_at E f).constructors n c →
       ParamsThenArgs c.fields (fam_at E f).params closed ts js c.result R →
       Rule E p (Form.con f n (length (fam_at E f).params)) ts js R zero_use
-  case : {q : Mult} {f : GlobalId} {k m : ℕ} {ns : List ℕ} {ts : Terms} {js : List Judged} {R : Term} → There (E.family f) → Usable p q →
+  case : {q : Mult} {f : GlobalId} {k m : ℕ} {ns : List ℕ} {ts : Terms} {js : List Judged} {R : Term} →
+      There (E.family f) → Usable p q →
       Cases (fam_at E f) q (fam_at E f).params closed k m ns ts js R → Rule E p (Form.case q f k m ns) ts js R zero_use
   delete : {q : Mult} {A s P b e : Term} {l : ℕ} {u₁ u₂ u₃ u₄ u₅ : Use} → Usable p q →
       Rule E p (Form.delete q) (A ▸ s ▸ P ▸ b ▸ e ▸ ε)
-      (judged [] (Sort 0) 𝟘 u₁ ∷ judged [] A 𝟘 u₂ ∷ judged ((q, EqTy A s s) ∷ []) (Sort l) 𝟘 u₃ ∷ judged [] (inst P (Refl A s)) 𝟙 u₄ ∷ judged [] (EqTy A s s) q u₅ ∷ [])
+      (judged [] (Sort 0) 𝟘 u₁ ∷ judged [] A 𝟘 u₂ ∷ judged ((q, EqTy A s s) ∷ []) (Sort l) 𝟘 u₃ ∷
+      judged [] (inst P (Refl A s)) 𝟙 u₄ ∷ judged [] (EqTy A s s) q u₅ ∷ [])
       (inst P e) zero_use
-  named : {n : Named} {ts : Terms} {js : List Judged} → NamedThere E n → Usable p (signature E n).mult → Args (signature E n).arguments closed ts js →
+  named : {n : Named} {ts : Terms} {js : List Judged} → NamedThere E n → Usable p (signature E n).mult →
+      Args (signature E n).arguments closed ts js →
       Rule E p (Form.named n) ts js (sub (push ts closed) (signature E n).type) zero_use
   -- a Trap may use anything, since a run that reaches it is over
   trap : {A : Term} {i : ℕ} {u any : Use} → Rule E p Form.trap (A ▸ ε) (judged [] (Sort i) 𝟘 u ∷ []) A any
@@ -191,7 +205,8 @@ mutual
     variable : {p : Part} {Γ : Ctx} {i : ℕ} {u : Use} →
         InScope Γ i → Usable p (mult_at Γ i) → UseIs p Γ (unit (Key.v i)) u → Typed E p Γ (var i) (type_at Γ i) u
     by_rule : {p : Part} {Γ : Ctx} {F : Form} {ts : Terms} {u : Use} {js : List Judged} {R : Term} {own : Use} →
-        Rule E p F ts js R own → TypedAll E p Γ (binders F) ts js → UseIs p Γ (total own js) u → Typed E p Γ (node F ts) R u
+        Rule E p F ts js R own → TypedAll E p Γ (binders F) ts js → UseIs p Γ (total own js) u →
+        Typed E p Γ (node F ts) R u
     conversion : {p : Part} {Γ : Ctx} {t A B : Term} {u : Use} → Typed E p Γ t A u → Conv E A B → Typed E p Γ t B u
 
   -- each component as the rule asks, in its part, under its binders, whose uses fit in the run part

@@ -34,4 +34,5 @@ StepsKeepClosed = (E : Env) → BodiesClosed E → (n : ℕ) (t s : Term) → St
 
 -- the tapes of a run are those that its events tell of, after a trap too
 abbrev pub TapesAreOfEvents : Type 0
-TapesAreOfEvents = (E : Env) (n : ℕ) (main : GlobalId) (input : List ℕ) → tape_list [] (full n E main input).last.events ≡ (full n E main input).last.tapes
+TapesAreOfEvents = (E : Env) (n : ℕ) (main : GlobalId) (input : List ℕ) →
+    tape_list [] (full n E main input).last.events ≡ (full n E main input).last.tapes

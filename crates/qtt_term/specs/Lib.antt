@@ -15,7 +15,12 @@ pub mod View
 pub mod PrimEnvironment
 pub mod Programs
 pub mod Rows
+pub mod Vectors
+pub mod VectorRows
+pub mod PositivityRows
+pub mod EchoRows
 pub mod Ask
+pub mod Accepted
 pub mod Infer
 pub mod Shift
 pub mod Items
@@ -27,3 +32,5 @@ pub mod Places
 pub mod PrimItems
 pub mod Growth
 pub mod Literals
+pub mod Each
+pub mod Shape

@@ -1,5 +1,6 @@
--- Literals in the range of 64 bits. Numbers of the definitions have no bound of their own; those of the code have this one, and
--- primitives keep it, so that a number and what the machine holds for it are the same at every moment.
+-- Literals in the range of 64 bits. Numbers of the definitions have no bound of their own; those of the code have
+-- this one, and primitives keep it, so that a number and what the machine holds for it are the same at every
+-- moment.
 use Rattle.std.specs.Prelude.{◌≡◌, Some, FitsSigned}
 use Rattle.std.specs.Int.{w64}
 use Rattle.qtt_base.specs.declared.place.GlobalId.{GlobalId}

@@ -22,8 +22,8 @@ abbrev mutual
   AllWithout f ε = Unit {0}
   AllWithout f (t ▸ ts) = Without f t × AllWithout f ts
 
--- a field's type is good for a family where it does not occur, or is applied to arguments without it, or stands behind arrows
--- whose domains are without it
+-- a field's type is good for a family where it does not occur, or is applied to arguments without it, or stands
+-- behind arrows whose domains are without it
 pub data Good (f : GlobalId) : Term → Type 0 where
   absent : {t : Term} → Without f t → Good f t
   applied : {ts : Terms} → AllWithout f ts → Good f (Fam f ts)

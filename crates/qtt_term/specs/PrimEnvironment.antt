@@ -1,5 +1,6 @@
 -- The environment of the module Prim: the families Unit, Bool, Line and Eq, and no definitions.
--- Numbers, texts, handles, IO, IO1, the primitives and the actions are forms of terms, with signatures of their own.
+-- Numbers, texts, handles, IO, IO1, the primitives and the actions are forms of terms, with signatures of their
+-- own.
 use Rattle.std.specs.Prelude.{Option, Some, None, cond}
 use Rattle.qtt_base.specs.declared.place.GlobalId.{GlobalId}
 use Rattle.qtt_term.specs.Term.{same_id}

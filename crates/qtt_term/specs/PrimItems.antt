@@ -21,7 +21,8 @@ bool_entry = record {
   id = bool_id;
   name = codes "Prim.Bool";
   family = bool_family;
-  constructors = plain_entry 9 (codes "Prim.False") [] (plain_constructor []) ∷ plain_entry 10 (codes "Prim.True") [] (plain_constructor []) ∷ [];
+  constructors = plain_entry 9 (codes "Prim.False") [] (plain_constructor []) ∷ plain_entry 10
+      (codes "Prim.True") [] (plain_constructor []) ∷ [];
 }
 
 abbrev pub line_entry : FamilyEntry

@@ -1,4 +1,5 @@
--- Small programs as environments: what their texts mean in core terms. Items have the numbers that they have in the text.
+-- Small programs as environments: what their texts mean in core terms. Items have the numbers that they have in
+-- the text.
 use Rattle.std.specs.Prelude.{ℕ, zero, suc, pos, List, [], ◌∷◌, codes, Option, Some, None, false, cond, eqb}
 use Rattle.qtt_base.specs.declared.place.GlobalId.{GlobalId}
 use Rattle.qtt_usage.specs.declared.mult.Mult.{Mult}
@@ -37,7 +38,7 @@ abbrev pub io_unit : Term
 io_unit = IoTy Io.io UnitTy
 
 abbrev pub put : Term → Term
-put s = Act Action.put_line (s ▸ ε)
+put s = Act Action.put_line 0 (s ▸ ε)
 
 abbrev pub shown : Term → Term
 shown t = Call prim.ShowInt (t ▸ ε)
@@ -50,7 +51,7 @@ added a b = Call prim.AddInt (a ▸ b ▸ ε)
 
 -- x <- t; k, from IO m to IO n, where x has type A and k gives a B
 abbrev pub bound : Io → Io → Term → Term → Term → Term → Mult → Term
-bound m n A B t k q = Act (Action.bind m n) (A ▸ B ▸ t ▸ Lam q A k ▸ ε)
+bound m n A B t k q = Act (Action.bind m n) 2 (A ▸ B ▸ t ▸ Lam q A k ▸ ε)
 
 -- t; k, both in IO, where k gives a Unit
 abbrev pub then_do : Term → Term → Term
@@ -70,7 +71,8 @@ identity =
     program [] ((0, many (Pi 𝟙 IntTy IntTy) (Lam 𝟙 IntTy (var 0)))
     ∷ (1, many io_unit (put (shown (App 𝟙 (Def (item 0)) (IntLit (pos 3)))))) ∷ [])
 
--- loopy : (0 u : Unit) -> Int; loopy u = loopy u; use : ((0 u : Unit) -> Int) -> IO Unit; use f = putLine "ok"; main = use loopy
+-- loopy : (0 u : Unit) -> Int; loopy u = loopy u; use : ((0 u : Unit) -> Int) -> IO Unit; use f = putLine "ok";
+-- main = use loopy
 abbrev pub loops : Env
 loops =
     program [] ((0, many (Pi 𝟘 UnitTy IntTy) (Lam 𝟘 UnitTy (App 𝟘 (Def (item 0)) (var 0))))
@@ -79,12 +81,18 @@ loops =
 
 -- loop : IO Unit; loop = do putLine "x"; loop; main = loop
 abbrev pub forever : Env
-forever = program [] ((0, many io_unit (then_do (put (TextLit (codes "x"))) (Def (item 0)))) ∷ (1, many io_unit (Def (item 0))) ∷ [])
+forever = program [] ((0, many io_unit (then_do (put (TextLit (codes "x"))) (Def (item 0)))) ∷
+    (1, many io_unit (Def (item 0))) ∷ [])
 
 -- partial no : Bool -> Int; no True = 1; main = putLine (showInt (addInt a b))
 abbrev pub partial_no : Term → Term → Env
 partial_no a b =
-    program [] ((0, many (Pi ω BoolTy IntTy) (Lam ω BoolTy (node (Form.case ω bool_id 0 1 (0 ∷ 0 ∷ [])) (IntTy ▸ Trap IntTy ▸ IntLit (pos 1) ▸ var 0 ▸ ε))))
+    program [] ((
+      0,
+      many (Pi ω BoolTy IntTy)
+          (Lam ω BoolTy (node (Form.case ω bool_id 0 1 (0 ∷ 0 ∷ []))
+          (IntTy ▸ Trap IntTy ▸ IntLit (pos 1) ▸ var 0 ▸ ε))),
+    )
     ∷ (1, many io_unit (put (shown (added a b)))) ∷ [])
 
 abbrev pub one_by_zero : Term
@@ -94,13 +102,13 @@ abbrev pub no_of_false : Term
 no_of_false = App ω (Def (item 0)) (truth false)
 
 abbrev pub opened_a : Term
-opened_a = Act Action.opens (TextLit (codes "a") ▸ ε)
+opened_a = Act Action.opens 0 (TextLit (codes "a") ▸ ε)
 
 abbrev pub written : Term → Term → Term
-written h s = Act Action.writes (h ▸ s ▸ ε)
+written h s = Act Action.writes 0 (h ▸ s ▸ ε)
 
 abbrev pub closed_after : Term → Term
-closed_after h = Act Action.closes (h ▸ ε)
+closed_after h = Act Action.closes 0 (h ▸ ε)
 
 -- main = do h <- open "a"; h2 <- write h "x"; h3 <- write h2 "y"; close h3
 abbrev pub handles : Env
@@ -108,28 +116,50 @@ handles =
     program [] ((
       0,
       many io_unit (with_handle opened_a
-          (with_handle (written (var 0) (TextLit (codes "x"))) (with_handle (written (var 0) (TextLit (codes "y"))) (closed_after (var 0))))),
+          (with_handle (written (var 0) (TextLit (codes "x")))
+          (with_handle (written (var 0) (TextLit (codes "y"))) (closed_after (var 0))))),
     ) ∷ [])
+
+-- do h <- open "a"; let q f : Unit -> IO Unit = \u => close h; f MkUnit
+abbrev pub closing_function : Mult → Term
+closing_function q =
+    with_handle opened_a
+    (App q (Lam q (Pi ω UnitTy io_unit) (App ω (var 0) MkUnit)) (Lam ω UnitTy (closed_after (var 1))))
+
+abbrev pub closes_by : Mult → Env
+closes_by q = program [] ((0, many io_unit (closing_function q)) ∷ [])
 
 -- main = do h <- open "a"; h2 <- write h (showInt (divInt 1 0)); close h2
 abbrev pub trapping : Env
-trapping = program [] ((0, many io_unit (with_handle opened_a (with_handle (written (var 0) (shown one_by_zero)) (closed_after (var 0))))) ∷ [])
+trapping =
+    program [] ((
+      0,
+      many io_unit
+          (with_handle opened_a (with_handle (written (var 0) (shown one_by_zero)) (closed_after (var 0)))),
+    ) ∷ [])
 
--- step : Line -> IO Unit; main = do l <- getLine; step l; step Eof = pure MkUnit; step (Got s) = do putLine s; main
+-- step : Line -> IO Unit; main = do l <- getLine; step l; step Eof = pure MkUnit; step (Got s) = do putLine s;
+-- main
 abbrev pub echo : Env
 echo =
     program [] ((
       0,
       many (Pi ω LineTy io_unit) (Lam ω LineTy (node (Form.case ω line_id 0 1 (0 ∷ 1 ∷ []))
-          (io_unit ▸ Act (Action.pure Io.io) (UnitTy ▸ MkUnit ▸ ε) ▸ then_do (put (var 0)) (Def (item 1)) ▸ var 0 ▸ ε))),
+          (io_unit ▸ Act (Action.pure Io.io) 1 (UnitTy ▸ MkUnit ▸ ε) ▸ then_do (put (var 0)) (Def (item 1)) ▸
+          var 0 ▸ ε))),
     )
-    ∷ (1, many io_unit (bound Io.io Io.io LineTy UnitTy (Act Action.get_line ε) (App ω (Def (item 0)) (var 0)) ω)) ∷ [])
+    ∷ (
+      1,
+      many io_unit (bound Io.io Io.io LineTy UnitTy (Act Action.get_line 0 ε)
+          (App ω (Def (item 0)) (var 0)) ω),
+    ) ∷ [])
 
 -- main = putLine (showInt t)
 abbrev pub shows : Term → Env
 shows t = program [] ((0, many io_unit (put (shown t))) ∷ [])
 
--- data Box : Type where MkBox : (0 n : Int) -> (1 s : Int) -> Box; b = MkBox (divInt 1 0) 4; use x = putLine "boxed"; main = use b
+-- data Box : Type where MkBox : (0 n : Int) -> (1 s : Int) -> Box; b = MkBox (divInt 1 0) 4; use x = putLine
+-- "boxed"; main = use b
 abbrev pub box : Term
 box = Fam (item 0) ε
 
@@ -146,9 +176,15 @@ deletes =
     program [] ((
       0,
       many (Pi 𝟘 (Sort 0) (Pi 𝟘 (var 0) (Pi ω (EqTy (var 1) (var 0) (var 0)) IntTy)))
-          (Lam 𝟘 (Sort 0) (Lam 𝟘 (var 0) (Lam ω (EqTy (var 1) (var 0) (var 0)) (Delete ω (var 2) (var 1) IntTy (IntLit (pos 1)) (var 0))))),
+          (Lam 𝟘 (Sort 0) (Lam 𝟘 (var 0)
+          (Lam ω (EqTy (var 1) (var 0) (var 0)) (Delete ω (var 2) (var 1) IntTy (IntLit (pos 1)) (var 0))))),
     )
-    ∷ (1, many io_unit (put (shown (App ω (App 𝟘 (App 𝟘 (Def (item 0)) IntTy) (IntLit (pos 3))) (node (Form.con eq_id 0 2) (IntTy ▸ IntLit (pos 3) ▸ ε)))))) ∷ [])
+    ∷ (
+      1,
+      many io_unit (put (shown
+          (App ω (App 𝟘 (App 𝟘 (Def (item 0)) IntTy) (IntLit (pos 3)))
+          (node (Form.con eq_id 0 2) (IntTy ▸ IntLit (pos 3) ▸ ε))))),
+    ) ∷ [])
 
 -- data Nat : Type where Z : Nat; S : Nat -> Nat
 abbrev pub nat : Term
@@ -174,6 +210,16 @@ plus_body =
 
 abbrev pub naturals : Env
 naturals = program ((0, nat_family) ∷ []) ((3, many (Pi ω nat (Pi ω nat nat)) plus_body) ∷ [])
+
+-- partial pred : Nat -> Nat; pred (S n) = n; main = let n = pred Z in putLine "n"
+abbrev pub pred_body : Term
+pred_body = Lam ω nat (node (Form.case ω (item 0) 0 1 (0 ∷ 1 ∷ [])) (nat ▸ Trap nat ▸ var 0 ▸ var 0 ▸ ε))
+
+abbrev pub predecessors : Env
+predecessors =
+    program ((0, nat_family) ∷ [])
+    ((3, many (Pi ω nat nat) pred_body)
+    ∷ (4, many io_unit (App ω (Lam ω nat (put (TextLit (codes "n")))) (App ω (Def (item 3)) z))) ∷ [])
 
 -- a1 : Type; a1 = Int; a2 : Type; a2 = a1; and so on; item n is the alias with number n + 1
 abbrev pub alias : ℕ → ℕ × Definition

@@ -31,7 +31,8 @@ abbrev pub scrutinee_place : ℕ → List ℕ → ℕ
 scrutinee_place zero ns = suc (length ns)
 scrutinee_place (suc k) ns = suc (scrutinee_place k ns)
 
--- the component whose head a form takes: the function, the scrutinee, or a primitive's first argument that is no literal
+-- the component whose head a form takes: the function, the scrutinee, or a primitive's first argument that is no
+-- literal
 abbrev pub asked : Form → (ℕ → Option Terms) → Option Terms → Option Terms
 asked (Form.app q) at_place in_arguments = at_place 0
 asked (Form.case q f k m ns) at_place in_arguments = at_place (scrutinee_place k ns)
@@ -114,7 +115,7 @@ same_named (Named.def d) (Named.def e) = same_id d e
 same_named (Named.lit l) (Named.lit m) = same_lit l m
 same_named (Named.prim_ty p) (Named.prim_ty r) = same_prim_ty p r
 same_named (Named.prim p) (Named.prim r) = same_prim p r
-same_named (Named.act a) (Named.act b) = same_action a b
+same_named (Named.act a k) (Named.act b l) = same_action a b && eqb k l
 same_named _ _ = false
 
 abbrev pub same_counts : List ℕ → List ℕ → Bool
@@ -130,7 +131,8 @@ same_form (Form.lam q) (Form.lam r) = same_mult q r
 same_form (Form.app q) (Form.app r) = same_mult q r
 same_form (Form.fam f) (Form.fam g) = same_id f g
 same_form (Form.con f c k) (Form.con g d l) = same_id f g && (eqb c d && eqb k l)
-same_form (Form.case q f k m ms) (Form.case r g l n ns) = same_mult q r && (same_id f g && (eqb k l && (eqb m n && same_counts ms ns)))
+same_form (Form.case q f k m ms) (Form.case r g l n ns) =
+    same_mult q r && (same_id f g && (eqb k l && (eqb m n && same_counts ms ns)))
 same_form (Form.delete q) (Form.delete r) = same_mult q r
 same_form (Form.named m) (Form.named n) = same_named m n
 same_form Form.trap Form.trap = true
@@ -165,7 +167,8 @@ pub record Item : Type 0 where
 
 -- the components side by side, numbered from k
 abbrev pub beside : List ℕ → ℕ → Terms → Terms → List Item
-beside path k (t ▸ ts) (s ▸ ss) = record { tested = false; path = path ++ k ∷ []; left = t; right = s } ∷ beside path (suc k) ts ss
+beside path k (t ▸ ts) (s ▸ ss) =
+    record { tested = false; path = path ++ k ∷ []; left = t; right = s } ∷ beside path (suc k) ts ss
 beside path k _ _ = []
 
 abbrev pub components : List ℕ → Term → Term → List Item
@@ -186,7 +189,8 @@ of_heads None None i = cond (same_outline i.left i.right) (Move.splits (componen
 
 -- terms that are the same are done with
 abbrev pub move : Env → Item → Move
-move E i = cond (not i.tested && same i.left i.right) (Move.splits []) (of_heads (head_step E i.left) (head_step E i.right) i)
+move E i = cond (not i.tested && same i.left i.right) (Move.splits [])
+    (of_heads (head_step E i.left) (head_step E i.right) i)
 
 pub data Answer : Type 0 where
   equal : Answer
@@ -212,8 +216,8 @@ follow (Move.splits js) i is again next = again (js ++ is)
 follow (Move.contracts j) i is again next = next (j ∷ is)
 follow Move.differs i is again next = Answer.different i.path
 
--- answers the items in order; each contraction goes on by `next`. Each move that is no contraction takes from the weight of the
--- left terms, so that as many of them as they weigh are enough
+-- answers the items in order; each contraction goes on by `next`. Each move that is no contraction takes from the
+-- weight of the left terms, so that as many of them as they weigh are enough
 abbrev pub answer : Env → (List Item → Answer) → ℕ → List Item → Answer
 answer E next s [] = Answer.equal
 answer E next zero (i ∷ is) = Answer.spent

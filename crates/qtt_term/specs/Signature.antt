@@ -1,5 +1,5 @@
 -- Environments: families with their constructors, and definitions; and the signatures of what is named.
-use Rattle.std.specs.Prelude.{ℕ, suc, List, [], ◌∷◌, ◌++◌, length, Option, Some, None, Bool, true, false}
+use Rattle.std.specs.Prelude.{◌≡◌, ℕ, suc, List, [], ◌∷◌, ◌++◌, length, Option, Some, None, Bool, true, false}
 use Rattle.qtt_base.specs.declared.place.GlobalId.{GlobalId}
 use Rattle.qtt_usage.specs.declared.mult.Mult.{Mult}
 use Rattle.qtt_usage.specs.Mult.{𝟘, 𝟙, ω}
@@ -167,12 +167,23 @@ prim_signature prim.ShowInt = from_to ((ω, IntTy) ∷ []) StringTy
 abbrev pub act_signature : Action → Signature
 act_signature (Action.pure m) = from_to ((𝟘, Sort 0) ∷ (mult_of m, var 0) ∷ []) (IoTy m (var 1))
 act_signature (Action.bind m n) =
-    from_to ((𝟘, Sort 0) ∷ (𝟘, Sort 0) ∷ (𝟙, IoTy m (var 1)) ∷ (𝟙, Pi (mult_of m) (var 2) (IoTy n (var 2))) ∷ []) (IoTy n (var 2))
+    from_to ((𝟘, Sort 0) ∷ (𝟘, Sort 0) ∷ (𝟙, IoTy m (var 1)) ∷ (𝟙, Pi (mult_of m) (var 2) (IoTy n (var 2))) ∷ [])
+    (IoTy n (var 2))
 act_signature Action.put_line = from_to ((ω, StringTy) ∷ []) (IoTy Io.io UnitTy)
 act_signature Action.get_line = from_to [] (IoTy Io.io LineTy)
 act_signature Action.opens = from_to ((ω, StringTy) ∷ []) (IoTy Io.io1 HandleTy)
 act_signature Action.writes = from_to ((𝟙, HandleTy) ∷ (ω, StringTy) ∷ []) (IoTy Io.io1 HandleTy)
 act_signature Action.closes = from_to ((𝟙, HandleTy) ∷ []) (IoTy Io.io UnitTy)
+
+-- how many type arguments an action takes, which are the first of its arguments
+abbrev pub type_arguments : Action → ℕ
+type_arguments (Action.pure m) = 1
+type_arguments (Action.bind m n) = 2
+type_arguments Action.put_line = 0
+type_arguments Action.get_line = 0
+type_arguments Action.opens = 0
+type_arguments Action.writes = 0
+type_arguments Action.closes = 0
 
 abbrev pub signature : Env → Named → Signature
 signature E (Named.def d) = record { arguments = []; type = (definition_at E d).type; mult = (definition_at E d).mult }
@@ -183,23 +194,26 @@ signature E (Named.prim_ty PrimTy.string) = from_to [] (Sort 0)
 signature E (Named.prim_ty PrimTy.handle) = from_to [] (Sort 0)
 signature E (Named.prim_ty (PrimTy.io_of m)) = from_to ((𝟘, Sort 0) ∷ []) (Sort 0)
 signature E (Named.prim p) = prim_signature p
-signature E (Named.act a) = act_signature a
+signature E (Named.act a k) = act_signature a
 
--- a definition that is named is there
+-- a definition that is named is there, and an action has its own number of type arguments
 abbrev pub NamedThere : Env → Named → Type 0
 NamedThere E (Named.def d) = There (E.definition d)
-NamedThere E _ = Unit {0}
+NamedThere E (Named.lit l) = Unit {0}
+NamedThere E (Named.prim_ty p) = Unit {0}
+NamedThere E (Named.prim p) = Unit {0}
+NamedThere E (Named.act a k) = k ≡ type_arguments a
 
 -- ---- what the rules of Fam, Con and Case read off a family
--- a constructor under its family's parameters: fields; and under these too, what its motive is taken at, which is the indices of its
--- result and the constructor itself, and its result
+-- a constructor under its family's parameters: fields; and under these too, what its motive is taken at, which is
+-- the indices of its result and the constructor itself, and its result
 pub record ConSig : Type 0 where
   pub fields : Tele
   pub targets : Terms
   pub result : Term
 
--- a family: parameters; under them, the binders of a motive, which are the indices and the scrutinee; under parameters and
--- indices, the family at them; its constructors
+-- a family: parameters; under them, the binders of a motive, which are the indices and the scrutinee; under
+-- parameters and indices, the family at them; its constructors
 pub record FamSig : Type 0 where
   pub params : Tele
   pub motive : Tele
@@ -220,7 +234,8 @@ abbrev pub con_sigs : GlobalId → ℕ → ℕ → List Constructor → List Con
 con_sigs f k c [] = []
 con_sigs f k c (d ∷ ds) = con_sig f k c d ∷ con_sigs f k (suc c) ds
 
--- the indices as binders: each type stands under the parameters and the indices before it, which it does not mention
+-- the indices as binders: each type stands under the parameters and the indices before it, which it does not
+-- mention
 abbrev pub index_binders : ℕ → List Term → Tele
 index_binders n [] = []
 index_binders n (T ∷ Ts) = (ω, ren (shift n) T) ∷ index_binders (suc n) Ts

@@ -1,5 +1,5 @@
 -- Simultaneous substitution without capture: σ gives a term for each variable.
-use Rattle.std.specs.Prelude.{ℕ, zero, suc, ◌+◌, ◌<◌, List}
+use Rattle.std.specs.Prelude.{ℕ, zero, suc, ◌+◌, ◌<◌, ◌-◌, max, List, Bool, eqb}
 use Rattle.qtt_term.specs.Term.{binders, first, rest, Term, Terms, var, node, ε, ◌▸◌, Sort}
 
 abbrev pub lift_ren : (ℕ → ℕ) → ℕ → ℕ
@@ -79,3 +79,16 @@ abbrev mutual
 -- no variable is free
 abbrev pub Closed : Term → Type 0
 Closed t = Below 0 t
+
+-- one more than the greatest variable that is free, and 0 where none is
+abbrev mutual
+  pub reach : Term → ℕ
+  reach (var i) = suc i
+  reach (node F ts) = reaches (binders F) ts
+
+  pub reaches : List ℕ → Terms → ℕ
+  reaches ns ε = 0
+  reaches ns (t ▸ ts) = max (reach t - first ns) (reaches (rest ns) ts)
+
+abbrev pub is_closed : Term → Bool
+is_closed t = eqb (reach t) 0

@@ -1,5 +1,5 @@
--- The discipline of tapes: each opened number is written and closed only after it was opened and before it was closed,
--- and is closed at most once.
+-- The discipline of tapes: each opened number is written and closed only after it was opened and before it was
+-- closed, and is closed at most once.
 use Rattle.std.specs.Prelude.{◌≡◌, ℕ, zero, suc, List, [], ◌∷◌, ◌++◌, Option, Some, None, Bool, true, false, cond}
 use Rattle.qtt_term.specs.Contraction.{chain}
 use Rattle.qtt_term.specs.FullRun.{Event}

@@ -1,6 +1,6 @@
 -- Core terms: a variable, or a form with its components.
--- The form carries what is fixed (levels, multiplicities, names, literals, counts) and says under how many binders each component stands.
--- Variables are de Bruijn indices.
+-- The form carries what is fixed (levels, multiplicities, names, literals, counts) and says under how many
+-- binders each component stands. Variables are de Bruijn indices.
 use Rattle.std.specs.Prelude.{ℕ, zero, suc, ℤ, Bool, ◌&&◌, eqb, List, [], ◌∷◌}
 use Rattle.qtt_base.specs.declared.place.GlobalId.{GlobalId}
 use Rattle.qtt_usage.specs.declared.mult.Mult.{Mult}
@@ -28,7 +28,8 @@ pub data Named : Type 0 where
   lit : Lit → Named
   prim_ty : PrimTy → Named
   prim : Primitive → Named
-  act : Action → Named
+  -- its action, and how many of its components are type arguments; the others are arguments
+  act : Action → ℕ → Named
 
 pub data Form : Type 0 where
   sort : ℕ → Form
@@ -125,8 +126,8 @@ TypeOf p ts = node (Form.named (Named.prim_ty p)) ts
 pattern abbrev pub Call : Primitive → Terms → Term
 Call p ts = node (Form.named (Named.prim p)) ts
 
-pattern abbrev pub Act : Action → Terms → Term
-Act a ts = node (Form.named (Named.act a)) ts
+pattern abbrev pub Act : Action → ℕ → Terms → Term
+Act a k ts = node (Form.named (Named.act a k)) ts
 
 pattern abbrev pub Trap : Term → Term
 Trap A = node Form.trap (A ▸ ε)

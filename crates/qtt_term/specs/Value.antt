@@ -4,7 +4,7 @@ use Rattle.qtt_base.specs.declared.place.GlobalId.{GlobalId}
 use Rattle.qtt_usage.specs.declared.mult.Mult.{Mult}
 use Rattle.qtt_usage.specs.Mult.{𝟘, 𝟙, ω}
 use Rattle.qtt_prims.specs.declared.lit.Lit.{Lit}
-use Rattle.qtt_term.specs.Term.{PrimTy, Action, Named, Form, Term, Terms, node, ε, ◌▸◌}
+use Rattle.qtt_term.specs.Term.{PrimTy, Action, Named, Form, Term, Terms, node, ε, ◌▸◌, Act}
 use Rattle.qtt_term.specs.Signature.{Tele, Constructor, Env, family_at, signature}
 
 abbrev pub mults : Tele → List Mult
@@ -42,8 +42,10 @@ mutual
     lam : {q : Mult} {ts : Terms} → Value E (node (Form.lam q) ts)
     lit : {l : Lit} {ts : Terms} → Value E (node (Form.named (Named.lit l)) ts)
     tape : {n : ℕ} {ts : Terms} → Value E (node (Form.tape n) ts)
-    con : {f : GlobalId} {c k : ℕ} {ts : Terms} → Values E (demanded E (Form.con f c k)) ts → Value E (node (Form.con f c k) ts)
-    act : {a : Action} {ts : Terms} → Values E (demanded E (Form.named (Named.act a))) ts → Value E (node (Form.named (Named.act a)) ts)
+    con : {f : GlobalId} {c k : ℕ} {ts : Terms} → Values E (demanded E (Form.con f c k)) ts →
+        Value E (node (Form.con f c k) ts)
+    act : {a : Action} {k : ℕ} {ts : Terms} → Values E (demanded E (Form.named (Named.act a k))) ts →
+        Value E (Act a k ts)
 
   -- the components that are not at 0
   pub data Values (E : Env) : List Mult → Terms → Type 0 where

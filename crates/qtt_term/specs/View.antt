@@ -41,7 +41,8 @@ term_step (Term-F.Pi q a b) = Pi q a.value b.value
 term_step (Term-F.Lam q a b) = Lam q a.value b.value
 term_step (Term-F.App q f a) = App q f.value a.value
 term_step (Term-F.Fam id ts) = Fam id (side_by_side ts.items)
-term_step (Term-F.Con c ps ts) = node (Form.con c.family c.place (length ps.items)) (side_by_side ps.items +++ side_by_side ts.items)
+term_step (Term-F.Con c ps ts) =
+    node (Form.con c.family c.place (length ps.items)) (side_by_side ps.items +++ side_by_side ts.items)
 term_step (Term-F.Case c) = c.value
 term_step (Term-F.Delete d) = d.value
 term_step (Term-F.Def id) = Def id
@@ -51,7 +52,7 @@ term_step Term-F.StringTy = TypeOf PrimTy.string ε
 term_step Term-F.HandleTy = TypeOf PrimTy.handle ε
 term_step (Term-F.IoTy m a) = TypeOf (PrimTy.io_of (io m)) (a.value ▸ ε)
 term_step (Term-F.Prim p ts) = Call p (side_by_side ts.items)
-term_step (Term-F.Act k ts xs) = Act (action k) (side_by_side ts.items +++ side_by_side xs.items)
+term_step (Term-F.Act k ts xs) = Act (action k) (length ts.items) (side_by_side ts.items +++ side_by_side xs.items)
 term_step (Term-F.Trap a) = Trap a.value
 term_step (Term-F.Tape n) = Tape n
 
@@ -61,7 +62,8 @@ branch_step b = (b.fields, b.body)
 abbrev pub case_step : Case-F Term (ℕ × Term) Term Term → Term
 case_step c =
     node (Form.case c.mult c.family (length c.params.items) (c.indices + 1) (map (λ b. b.0) c.branches.items))
-    (side_by_side c.params.items +++ (c.motive ▸ (side_by_side (map (λ b. b.1) c.branches.items) +++ (c.scrutinee ▸ ε))))
+    (side_by_side c.params.items +++
+    (c.motive ▸ (side_by_side (map (λ b. b.1) c.branches.items) +++ (c.scrutinee ▸ ε))))
 
 abbrev pub delete_step : Delete-F Term (ℕ × Term) Term Term → Term
 delete_step d = Delete d.mult d.ty d.point d.motive d.branch d.scrutinee

@@ -3,8 +3,9 @@
 use crate::term::Term;
 use qtt_usage::mult::Mult;
 
-/// A context: its variables, the outermost first, each type under the variables before it; and for each local name, the innermost
-/// last, the term and the type that it stands for, in the whole context.
+/// A context: its variables, the outermost first, each type under the variables before it; and
+/// for each local name, the innermost last, the term and the type that it stands for, in the
+/// whole context.
 #[derive(Debug, Drop)]
 pub struct Ctx {
     pub vars: Vec<(Mult, Term)>,

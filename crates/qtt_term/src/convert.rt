@@ -14,7 +14,8 @@ use std::alloc::Global;
 /// A place in a term: the numbers of the components on the way to it, from 0.
 pub type Path = Vec<u32>;
 
-/// What a head came to: the head, with the number of contractions made, or that one more than may be made would be.
+/// What a head came to: the head, with the number of contractions made, or that one more than
+/// may be made would be.
 #[derive(Debug, Drop)]
 pub enum Head {
     Done(Term, u64),
@@ -29,7 +30,8 @@ pub enum Answer {
     Spent,
 }
 
-/// A question whose answer was Spent, with the number of the variables of the context in which its terms stand.
+/// A question whose answer was Spent, with the number of the variables of the context in which
+/// its terms stand.
 #[derive(Debug, Drop)]
 pub enum Question {
     Head(u32, Term),
@@ -49,5 +51,6 @@ pub trait Converter {
         t: &Term,
         u: &Term,
     ) -> Result<Answer, MemoryError>
-        ensures { IfOk result (λ a. answer_of a ≡ compare_within (env_of env.now) n (term t.now) (term u.now)) };
+        ensures { IfOk result (λ a. answer_of a ≡ compare_within (env_of env.now) n (term t.now)
+            (term u.now)) };
 }

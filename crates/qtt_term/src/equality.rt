@@ -1,6 +1,6 @@
 //! Syntactic equality.
 
-ghost use Rattle.std.specs.Prelude.{◌≡◌, ◌↔◌, ◌+◌, ◌<◌, ◌≤◌, ◌++◌, length, take, drop, Some, IsTrue, slice_get};
+ghost use Rattle.std.specs.Prelude.{◌≡◌, ◌↔◌, IsTrue};
 ghost use Rattle.qtt_term.specs.View.{term, terms, case, delete, branch, branches};
 
 use crate::term::{Branch, Case, Delete, Term};
@@ -38,13 +38,7 @@ fn same_term(one: &Term, other: &Term) -> bool
         (Term::IoTy(k, a), Term::IoTy(m, b)) => k == m && same_term(a, b),
         (Term::Prim(p, xs), Term::Prim(q, ys)) => p == q && same_all(xs, ys),
         (Term::Act(p, ps, xs), Term::Act(q, qs, ys)) => {
-            if p != q {
-                return false;
-            }
-            if ps.len() + xs.len() != qs.len() + ys.len() {
-                return false;
-            }
-            same_part(ps, 0, qs, ys) && same_part(xs, ps.len(), qs, ys)
+            p == q && same_all(ps, qs) && same_all(xs, ys)
         }
         (Term::Trap(a), Term::Trap(b)) => same_term(a, b),
         (Term::Tape(i), Term::Tape(j)) => i == j,
@@ -61,32 +55,6 @@ fn same_all(ones: &[Term], others: &[Term]) -> bool
     }
     for (i, one) in ones.iter().enumerate() {
         if !same_term(one, &others[i]) {
-            return false;
-        }
-    }
-    true
-}
-
-/// The term at a place of two lists, one behind the other.
-fn joined_at<'a>(front: &'a [Term], back: &'a [Term], place: usize) -> &'a Term
-    requires { place < length front.now + length back.now }
-    ensures { slice_get (front.now ++ back.now) place ≡ Some result.now }
-{
-    if place < front.len() {
-        &front[place]
-    } else {
-        &back[place - front.len()]
-    }
-}
-
-/// Whether the terms of a list stand from a place on in two lists, one behind the other.
-#[cycle(same_term)]
-fn same_part(part: &[Term], from: usize, front: &[Term], back: &[Term]) -> bool
-    requires { from + length part.now ≤ length front.now + length back.now }
-    ensures { IsTrue result ↔ (terms part.now ≡ take (length part.now) (drop from (terms (front.now ++ back.now)))) }
-{
-    for (i, one) in part.iter().enumerate() {
-        if !same_term(one, joined_at(front, back, from + i)) {
             return false;
         }
     }

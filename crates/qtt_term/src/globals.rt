@@ -4,7 +4,7 @@ ghost use Rattle.std.specs.Prelude.{◌≡◌, ◌<◌, ◌^◌, length, map, Is
 ghost use Rattle.std.specs.List.{filter};
 ghost use Rattle.qtt_base.specs.declared.place.GlobalId.{GlobalId};
 ghost use Rattle.qtt_term.specs.Keyed.{ascends, is_of};
-ghost use Rattle.qtt_term.specs.Items.{constructor_entry, family_entry, definition_entry, family_id, definition_id, constructor_of, constructors_differ as differ};
+ghost use Rattle.qtt_term.specs.Items.{constructor_entry, family_entry, definition_entry, family_id, definition_id, constructor_of, constructors_differ as differ, all_bodies_closed, all_results_counted};
 ghost use Rattle.qtt_term.specs.Places.{place_id, place_of, places_from};
 
 use crate::items::{Definition, Family};
@@ -15,17 +15,24 @@ use qtt_base::{GlobalId, MemoryError, ModuleId, Name};
 use qtt_usage::mult::Mult;
 use std::alloc::Global;
 
-/// Families and definitions, each in ascending order of module and item, and where each constructor stands.
+/// Families and definitions, each in ascending order of module and item, and where each
+/// constructor stands. No variable is free in a body, and each constructor's result has one term
+/// for each index.
 #[derive(Debug, Drop)]
 pub struct Globals {
     families: Vec<Family>,
     definitions: Vec<Definition>,
     places: Vec<Place>,
-    ghost families_ascend: { IsTrue (ascends family_id (map family_entry families.items)) },
-    ghost definitions_ascend: { IsTrue (ascends definition_id (map definition_entry definitions.items)) },
+    pub ghost families_ascend: { IsTrue (ascends family_id (map family_entry families.items)) },
+    pub ghost definitions_ascend: { IsTrue
+        (ascends definition_id (map definition_entry definitions.items)) },
     ghost places_ascend: { IsTrue (ascends place_id places.items) },
     ghost constructors_differ: { IsTrue (differ (map family_entry families.items)) },
-    ghost places_are: { (id : GlobalId) → place_of places.items id ≡ constructor_of (map family_entry families.items) id },
+    ghost places_are: { (id : GlobalId) →
+        place_of places.items id ≡ constructor_of (map family_entry families.items) id },
+    pub ghost bodies_closed: { IsTrue
+        (all_bodies_closed (map definition_entry definitions.items)) },
+    pub ghost results_counted: { IsTrue (all_results_counted (map family_entry families.items)) },
 }
 
 /// Where a constructor stands.
@@ -62,7 +69,7 @@ impl Keyed for Place {
 impl Globals {
     ghost use Rattle.std.specs.Prelude.{[], Some, None, IsOk, OnOk, OnErr, IfSome, IfNone, option_map, slice_get, ◌⊎◌};
     ghost use Rattle.qtt_term.specs.Keyed.{with_id, inserted, all_inserted};
-    ghost use Rattle.qtt_term.specs.Items.{family as family_of, definition as definition_of, signature_entry, with_body};
+    ghost use Rattle.qtt_term.specs.Items.{family as family_of, definition as definition_of, results_counted, signature_entry, with_body};
     ghost use Rattle.qtt_term.specs.Globals.{families as families_of, definitions as definitions_of, env, IsNew, IsAbsent, IsOpen};
     ghost use Rattle.qtt_term.specs.PrimItems.{prim_families};
     ghost use Rattle.qtt_term.specs.PrimEnvironment.{prim_env};
@@ -98,7 +105,9 @@ impl Globals {
     pub fn add_family(&mut self, alloc: Global, family: Family) -> Result<(), MemoryError>
         requires count { length family.constructors.items < 2 ^ 32 }
         requires new_ids { IsNew self.old (family_entry family) }
-        ensures ok { OnOk result (families_of self.new ≡ inserted family_id (family_entry family) (families_of self.old)) }
+        requires counted { IsTrue (results_counted (family_of family)) }
+        ensures ok { OnOk result (families_of self.new ≡ inserted family_id (family_entry family)
+            (families_of self.old)) }
         ensures err { OnErr result (families_of self.new ≡ families_of self.old) }
         ensures definitions { definitions_of self.new ≡ definitions_of self.old }
     {
@@ -119,7 +128,8 @@ impl Globals {
         ty: Term,
     ) -> Result<(), MemoryError>
         requires { IsAbsent self.old id }
-        ensures ok { OnOk result (definitions_of self.new ≡ inserted definition_id (signature_entry id name mult (term ty)) (definitions_of self.old)) }
+        ensures ok { OnOk result (definitions_of self.new ≡ inserted definition_id
+            (signature_entry id name mult (term ty)) (definitions_of self.old)) }
         ensures err { OnErr result (definitions_of self.new ≡ definitions_of self.old) }
         ensures families { families_of self.new ≡ families_of self.old }
     {
@@ -140,7 +150,8 @@ impl Globals {
         requires open { IsOpen self.old id }
         requires closed { Closed (term body) }
         ensures ok { IsOk result }
-        ensures definitions { definitions_of self.new ≡ with_body id (term body) (definitions_of self.old) }
+        ensures definitions { definitions_of self.new ≡ with_body id (term body)
+            (definitions_of self.old) }
         ensures families { families_of self.new ≡ families_of self.old }
     {
         let at = match search(&self.definitions, id) {
@@ -153,7 +164,8 @@ impl Globals {
 
     /// The family of this id.
     pub fn family(&self, id: GlobalId) -> Option<&Family>
-        ensures found { option_map (λ F. family_entry F.now) result ≡ with_id family_id id (families_of self.now) }
+        ensures found { option_map (λ F. family_entry F.now) result ≡ with_id family_id id
+            (families_of self.now) }
         ensures env { option_map (λ F. family_of F.now) result ≡ (env self.now).family id }
     {
         find(&self.families, id)
@@ -161,7 +173,8 @@ impl Globals {
 
     /// The definition of this id.
     pub fn definition(&self, id: GlobalId) -> Option<&Definition>
-        ensures found { option_map (λ d. definition_entry d.now) result ≡ with_id definition_id id (definitions_of self.now) }
+        ensures found { option_map (λ d. definition_entry d.now) result ≡ with_id definition_id
+            id (definitions_of self.now) }
         ensures env { option_map (λ d. definition_of d.now) result ≡ (env self.now).definition id }
     {
         find(&self.definitions, id)
@@ -169,9 +182,14 @@ impl Globals {
 
     /// The family of the constructor of this id, and the constructor's place there, from 0.
     pub fn constructor(&self, id: GlobalId) -> Option<(&Family, u32)>
-        ensures found { IfSome result (λ r. constructor_of (families_of self.now) id ≡ Some (record { family = r.0.now.id; place = r.1 })) }
-        ensures family { IfSome result (λ r. with_id family_id r.0.now.id (families_of self.now) ≡ Some (family_entry r.0.now)) }
-        ensures place { IfSome result (λ r. slice_get (map (λ c. c.id) r.0.now.constructors.items) r.1 ≡ Some id) }
+        ensures found { IfSome result
+            (λ r. constructor_of (families_of self.now) id ≡ Some
+            (record { family = r.0.now.id; place = r.1 })) }
+        ensures family { IfSome result
+            (λ r. with_id family_id r.0.now.id (families_of self.now) ≡ Some
+            (family_entry r.0.now)) }
+        ensures place { IfSome result
+            (λ r. slice_get (map (λ c. c.id) r.0.now.constructors.items) r.1 ≡ Some id) }
         ensures none { IfNone result (constructor_of (families_of self.now) id ≡ None) }
     {
         let con = match find(&self.places, id) {
@@ -202,15 +220,21 @@ impl Globals {
 
     /// The items of one module.
     pub fn part(&self, alloc: Global, module: ModuleId) -> Result<Globals, MemoryError>
-        ensures families { IfOk result (λ g. families_of g ≡ filter (λ F. is_of (Some «module») F.id) (families_of self.now)) }
-        ensures definitions { IfOk result (λ g. definitions_of g ≡ filter (λ d. is_of (Some «module») d.id) (definitions_of self.now)) }
+        ensures families { IfOk result
+            (λ g. families_of g ≡ filter (λ F. is_of (Some «module») F.id)
+            (families_of self.now)) }
+        ensures definitions { IfOk result
+            (λ g. definitions_of g ≡ filter (λ d. is_of (Some «module») d.id)
+            (definitions_of self.now)) }
     {
         self.copied(alloc, Some(module))
     }
 
     fn copied(&self, alloc: Global, of: Option<ModuleId>) -> Result<Globals, MemoryError>
-        ensures families { IfOk result (λ g. families_of g ≡ filter (λ F. is_of of F.id) (families_of self.now)) }
-        ensures definitions { IfOk result (λ g. definitions_of g ≡ filter (λ d. is_of of d.id) (definitions_of self.now)) }
+        ensures families { IfOk result
+            (λ g. families_of g ≡ filter (λ F. is_of of F.id) (families_of self.now)) }
+        ensures definitions { IfOk result
+            (λ g. definitions_of g ≡ filter (λ d. is_of of d.id) (definitions_of self.now)) }
     {
         Ok(Globals {
             families: copied_families(alloc, &self.families, of)?,
@@ -222,8 +246,12 @@ impl Globals {
     /// Adds all items of a part.
     pub fn adopt(&mut self, alloc: Global, part: &Globals) -> Result<(), MemoryError>
         requires { (id : GlobalId) → IsAbsent self.old id ⊎ IsAbsent part.now id }
-        ensures families { OnOk result (families_of self.new ≡ all_inserted family_id (families_of part.now) (families_of self.old)) }
-        ensures definitions { OnOk result (definitions_of self.new ≡ all_inserted definition_id (definitions_of part.now) (definitions_of self.old)) }
+        ensures families { OnOk result
+            (families_of self.new ≡ all_inserted family_id (families_of part.now)
+            (families_of self.old)) }
+        ensures definitions { OnOk result
+            (definitions_of self.new ≡ all_inserted definition_id (definitions_of part.now)
+            (definitions_of self.old)) }
         ensures err_families { OnErr result (families_of self.new ≡ families_of self.old) }
         ensures err_definitions { OnErr result (definitions_of self.new ≡ definitions_of self.old) }
     {
@@ -257,7 +285,8 @@ fn copied_families(
     families: &[Family],
     of: Option<ModuleId>,
 ) -> Result<Vec<Family>, MemoryError>
-    ensures { IfOk result (λ v. map family_entry v.items ≡ filter (λ F. is_of of F.id) (map family_entry families.now)) }
+    ensures { IfOk result (λ v. map family_entry v.items ≡ filter (λ F. is_of of F.id)
+        (map family_entry families.now)) }
 {
     let mut copies = Vec::new(alloc);
     for family in families {
@@ -274,7 +303,8 @@ fn copied_definitions(
     definitions: &[Definition],
     of: Option<ModuleId>,
 ) -> Result<Vec<Definition>, MemoryError>
-    ensures { IfOk result (λ v. map definition_entry v.items ≡ filter (λ d. is_of of d.id) (map definition_entry definitions.now)) }
+    ensures { IfOk result (λ v. map definition_entry v.items ≡ filter (λ d. is_of of d.id)
+        (map definition_entry definitions.now)) }
 {
     let mut copies = Vec::new(alloc);
     for definition in definitions {
@@ -305,7 +335,8 @@ fn copied_places(
 /// Where the constructors of a family stand.
 fn places_of(alloc: Global, family: &Family) -> Result<Vec<Place>, MemoryError>
     requires { length family.now.constructors.items < 2 ^ 32 }
-    ensures { IfOk result (λ v. v.items ≡ places_from family.now.id 0 (map constructor_entry family.now.constructors.items)) }
+    ensures { IfOk result (λ v. v.items ≡ places_from family.now.id 0
+        (map constructor_entry family.now.constructors.items)) }
 {
     let mut places = Vec::with_capacity(alloc, family.constructors.len())?;
     for (place, constructor) in family.constructors.iter().enumerate() {

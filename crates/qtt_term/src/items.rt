@@ -9,7 +9,8 @@ use qtt_base::{GlobalId, MemoryError, Name};
 use qtt_usage::mult::Mult;
 use std::alloc::Global;
 
-/// A family of types. Each parameter's type stands under the parameters before it, and each index's type under the parameters alone.
+/// A family of types. Each parameter's type stands under the parameters before it, and each
+/// index's type under the parameters alone.
 #[derive(Debug, Drop)]
 pub struct Family {
     pub id: GlobalId,
@@ -21,8 +22,8 @@ pub struct Family {
     pub constructors: Vec<Constructor>,
 }
 
-/// A constructor, under the parameters of its family. Each field's type stands under the fields before it, and the result's indices
-/// under all fields.
+/// A constructor, under the parameters of its family. Each field's type stands under the fields
+/// before it, and the result's indices under all fields.
 #[derive(Debug, Drop)]
 pub struct Constructor {
     pub id: GlobalId,
@@ -99,7 +100,8 @@ fn copy_constructors(
     alloc: Global,
     constructors: &[Constructor],
 ) -> Result<Vec<Constructor>, MemoryError>
-    ensures { IfOk result (λ v. map constructor_entry v.items ≡ map constructor_entry constructors.now) }
+    ensures { IfOk result (λ v. map constructor_entry v.items ≡ map constructor_entry
+        constructors.now) }
 {
     let mut copies = Vec::with_capacity(alloc, constructors.len())?;
     for constructor in constructors {

@@ -1,11 +1,30 @@
 //! Core terms: their definitions, their laws, and the types that hold them.
+//!
+//! `Term::copy`, `same`, `shift`, `subst` and `fill` are their definitions, and every literal
+//! of a term of the code is in the range of 64 bits (`Term::literals_in_range`). `Globals`,
+//! with `prim`, `add_family`, `add_signature`, `set_body`, its look-ups, `copy`, `part` and
+//! `adopt`, keeps ids, names, order and contents exactly, and a refused growth changes nothing;
+//! in every environment bodies are closed and results counted
+//! (`laws::globals_keep_their_facts`). Beside each condition stands its test.
+//!
+//! `laws`: simultaneous substitution (`substitution_laws`); exactly the values have the outcome
+//! value (`values_are_kept`); each full step is a contraction (`full_steps_contract`); no
+//! contraction brings a free variable into a term where bodies are closed
+//! (`steps_keep_closed`), nor a literal out of range where none is in the bodies
+//! (`steps_keep_range`); the tapes of a run are those of its events (`tapes_are_of_events`);
+//! environments grow by their ids (`environments_grow`). `examples`: worked runs, questions and
+//! judgements, and that Prim is well formed and complete.
+//!
+//! A theory: its lemmas may be cited.
 #![tactic(auto)]
 
+pub mod conditions;
 pub mod context;
 pub mod convert;
 pub mod copying;
 pub mod equality;
 pub mod examples;
+pub mod free;
 pub mod globals;
 pub mod items;
 mod keyed;
@@ -13,6 +32,7 @@ pub mod laws;
 pub mod literals;
 mod prim_items;
 pub mod rule;
+pub mod shape;
 pub mod shifting;
 pub mod substitution;
 pub mod term;
@@ -23,6 +43,3 @@ pub use globals::Globals;
 pub use items::{Constructor, Definition, Family};
 pub use rule::Rule;
 pub use term::{Branch, Case, ConId, Delete, IoKind, Term, TermError};
-
-#[cfg(test)]
-mod tests;

@@ -8,7 +8,8 @@ use crate::term::{Branch, Case, Delete, Term};
 use qtt_prims::Lit;
 
 impl Term {
-    /// Every literal of the term is in the range of 64 bits. This only reads them: the fact is the contract's.
+    /// Every literal of the term is in the range of 64 bits. This only reads them: the fact is
+    /// the contract's.
     pub fn literals_in_range(&self)
         ensures { LiteralsInRange (term self.now) }
     {

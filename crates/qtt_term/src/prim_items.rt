@@ -1,7 +1,8 @@
-//! The families of the module Prim: Unit, Bool, Line and Eq, numbered by their places in Prim's table of names.
+//! The families of the module Prim: Unit, Bool, Line and Eq, numbered by their places in Prim's
+//! table of names.
 
-ghost use Rattle.std.specs.Prelude.{◌≡◌, [], ◌∷◌, IfOk, map, codes};
-ghost use Rattle.qtt_term.specs.Signature.{prim_id as id_of, plain_constructor, plain_family as plain};
+ghost use Rattle.std.specs.Prelude.{◌≡◌, IfOk, map, codes};
+ghost use Rattle.qtt_term.specs.Signature.{prim_id as id_of, plain_family as plain};
 ghost use Rattle.qtt_term.specs.Items.{field, family_entry, constructor_entry};
 ghost use Rattle.qtt_term.specs.PrimItems.{plain_entry, unit_entry, bool_entry, line_entry, eq_entry};
 ghost use Rattle.qtt_term.specs.View.{terms, side_by_side};
@@ -38,7 +39,12 @@ fn constructor(
     fields: Vec<(Mult, Term)>,
     result_indices: Vec<Term>,
 ) -> Result<Constructor, MemoryError>
-    ensures { IfOk result (λ c. constructor_entry c ≡ plain_entry item name.now (map (λ f. codes "_") fields.items) (record { fields = map field fields.items; results = side_by_side (terms result_indices.items) })) }
+    ensures { IfOk result (λ c. constructor_entry c ≡ plain_entry item name.now
+        (map (λ f. codes "_") fields.items)
+        (record {
+          fields = map field fields.items;
+          results = side_by_side (terms result_indices.items);
+        })) }
 {
     Ok(Constructor {
         id: prim_id(item),
@@ -66,7 +72,12 @@ fn plain_family(
     name: &str,
     constructors: Vec<Constructor>,
 ) -> Result<Family, MemoryError>
-    ensures { IfOk result (λ F. family_entry F ≡ record { id = id_of item; name = name.now; family = plain (map (λ e. e.constructor) (map constructor_entry constructors.items)); constructors = map constructor_entry constructors.items }) }
+    ensures { IfOk result (λ F. family_entry F ≡ record {
+      id = id_of item;
+      name = name.now;
+      family = plain (map (λ e. e.constructor) (map constructor_entry constructors.items));
+      constructors = map constructor_entry constructors.items;
+    }) }
 {
     Ok(Family {
         id: prim_id(item),

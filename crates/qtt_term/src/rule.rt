@@ -1,7 +1,7 @@
 //! The names of rules.
 
-/// A rule that a refusal names: a row of the table of elaboration, a rule of the core judgement, or the part of the language that
-/// stands in no table.
+/// A rule that a refusal names: a row of the table of elaboration, a rule of the core judgement,
+/// or the part of the language that stands in no table.
 #[derive(Clone, Copy, Debug, PartialEq, Eq)]
 pub enum Rule {
     Var,

@@ -94,7 +94,8 @@ fn shifted(alloc: Global, source: &Term, from: u32, by: u32) -> Result<Term, Ter
 
 #[cycle(shifted)]
 fn shifted_all(alloc: Global, sources: &[Term], from: u32, by: u32) -> Result<Vec<Term>, TermError>
-    ensures { IfOk result (λ v. terms v.items ≡ map (ren (lifts_ren from (shift_by by))) (terms sources.now)) }
+    ensures { IfOk result (λ v. terms v.items ≡ map (ren (lifts_ren from (shift_by by)))
+        (terms sources.now)) }
 {
     let mut moved = Vec::with_capacity(alloc, sources.len())?;
     for source in sources {
@@ -111,7 +112,8 @@ fn shifted_branches(
     from: u32,
     by: u32,
 ) -> Result<Vec<Branch>, TermError>
-    ensures { IfOk result (λ v. branches v.items ≡ map (ren_branch (lifts_ren from (shift_by by))) (branches sources.now)) }
+    ensures { IfOk result (λ v. branches v.items ≡ map
+        (ren_branch (lifts_ren from (shift_by by))) (branches sources.now)) }
 {
     let mut moved = Vec::with_capacity(alloc, sources.len())?;
     for source in sources {

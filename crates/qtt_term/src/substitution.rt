@@ -10,16 +10,19 @@ use crate::term::{Branch, Case, Delete, Term, TermError};
 use std::alloc::Global;
 
 impl Term {
-    /// The term with values for its newest variables, the last of them for variable 0; the other variables are lowered.
+    /// The term with values for its newest variables, the last of them for variable 0; the other
+    /// variables are lowered.
     pub fn subst(&self, alloc: Global, values: &[Term]) -> Result<Term, TermError>
         ensures { IfOk result (λ t. term t ≡ sub (values_in (terms values.now)) (term self.now)) }
     {
         substituted(alloc, self, 0, values, Beyond::Kept)
     }
 
-    /// A part of a signature with values for all variables that the signature binds, the last of them for variable 0.
+    /// A part of a signature with values for all variables that the signature binds, the last of
+    /// them for variable 0.
     pub fn fill(&self, alloc: Global, values: &[Term]) -> Result<Term, TermError>
-        ensures { IfOk result (λ t. term t ≡ sub (signature_values (terms values.now)) (term self.now)) }
+        ensures { IfOk result (λ t. term t ≡ sub (signature_values (terms values.now))
+            (term self.now)) }
     {
         substituted(alloc, self, 0, values, Beyond::Unbound)
     }
@@ -72,7 +75,8 @@ fn substituted(
     values: &[Term],
     beyond: Beyond,
 ) -> Result<Term, TermError>
-    ensures { IfOk result (λ t. term t ≡ sub (lifts depth (values_or beyond (terms values.now))) (term source.now)) }
+    ensures { IfOk result (λ t. term t ≡ sub (lifts depth (values_or beyond (terms values.now)))
+        (term source.now)) }
 {
     match source {
         Term::Var(i) => substituted_var(alloc, *i, depth, values, beyond),
@@ -149,7 +153,8 @@ fn substituted_all(
     values: &[Term],
     beyond: Beyond,
 ) -> Result<Vec<Term>, TermError>
-    ensures { IfOk result (λ v. terms v.items ≡ map (sub (lifts depth (values_or beyond (terms values.now)))) (terms sources.now)) }
+    ensures { IfOk result (λ v. terms v.items ≡ map
+        (sub (lifts depth (values_or beyond (terms values.now)))) (terms sources.now)) }
 {
     let mut moved = Vec::with_capacity(alloc, sources.len())?;
     for source in sources {
@@ -167,7 +172,8 @@ fn substituted_branches(
     values: &[Term],
     beyond: Beyond,
 ) -> Result<Vec<Branch>, TermError>
-    ensures { IfOk result (λ v. branches v.items ≡ map (sub_branch (lifts depth (values_or beyond (terms values.now)))) (branches sources.now)) }
+    ensures { IfOk result (λ v. branches v.items ≡ map
+        (sub_branch (lifts depth (values_or beyond (terms values.now)))) (branches sources.now)) }
 {
     let mut moved = Vec::with_capacity(alloc, sources.len())?;
     for source in sources {
@@ -189,7 +195,8 @@ fn substituted_case(
     values: &[Term],
     beyond: Beyond,
 ) -> Result<Case, TermError>
-    ensures { IfOk result (λ c. case c ≡ sub (lifts depth (values_or beyond (terms values.now))) (case source.now)) }
+    ensures { IfOk result (λ c. case c ≡ sub (lifts depth (values_or beyond (terms values.now)))
+        (case source.now)) }
 {
     let inner = raised(depth, raised(source.indices, 1)?)?;
     Ok(Case {
@@ -212,7 +219,8 @@ fn substituted_delete(
     values: &[Term],
     beyond: Beyond,
 ) -> Result<Delete, TermError>
-    ensures { IfOk result (λ d. delete d ≡ sub (lifts depth (values_or beyond (terms values.now))) (delete source.now)) }
+    ensures { IfOk result (λ d. delete d ≡ sub
+        (lifts depth (values_or beyond (terms values.now))) (delete source.now)) }
 {
     Ok(Delete {
         mult: source.mult,

@@ -52,7 +52,8 @@ pub fn join_is_least_above()
 /// `v` so often as `r₁` and `r₂`, the joins of both parts are enough for the
 /// join of the whole.
 pub fn join_law()
-    ensures { (u₁ u₂ r₁ r₂ v : Mult) → join (u₁ ⊕ r₁ ⊙ v) (u₂ ⊕ r₂ ⊙ v) ≼ join u₁ u₂ ⊕ join r₁ r₂ ⊙ v }
+    ensures { (u₁ u₂ r₁ r₂ v : Mult) →
+        join (u₁ ⊕ r₁ ⊙ v) (u₂ ⊕ r₂ ⊙ v) ≼ join u₁ u₂ ⊕ join r₁ r₂ ⊙ v }
 {}
 
 /// A list of uses is a use vector: what is done to lists is done to each entry.
@@ -63,10 +64,12 @@ pub fn lists_are_use_vectors()
         → use_of (usage_sum us ws) x ≡ use_of us x ⊕ use_of ws x }
     ensures joined { (us ws : List Mult) (x : Key) → length us ≡ length ws
         → use_of (usage_join us ws) x ≡ join (use_of us x) (use_of ws x) }
-    ensures scaled { (q : Mult) (us : List Mult) (x : Key) → use_of (usage_scale q us) x ≡ q ⊙ use_of us x }
+    ensures scaled { (q : Mult) (us : List Mult) (x : Key) →
+        use_of (usage_scale q us) x ≡ q ⊙ use_of us x }
 
     ensures newest { (u : Mult) (us : List Mult) → use_of (u ∷ us) (Key.v 0) ≡ u }
-    ensures without_newest { (u : Mult) (us : List Mult) (x : Key) → out (use_of (u ∷ us)) x ≡ use_of us x }
+    ensures without_newest { (u : Mult) (us : List Mult) (x : Key) →
+        out (use_of (u ∷ us)) x ≡ use_of us x }
     ensures taken { (us : List Mult) (i : ℕ) (x : Key)
         → use_of us x ≡ use_of us (Key.v i) ⊙ unit (Key.v i) x ⊕ use_of (slice_set us i Zero) x }
 {}

@@ -1,4 +1,6 @@
 //! Values of the machine, placed in an arena.
+//!
+//! `place` puts parts into the arena unchanged.
 #![tactic(auto)]
 
 pub mod val;

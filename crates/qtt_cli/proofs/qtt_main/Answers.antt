@@ -22,7 +22,8 @@ seen g c = record {
 }
 
 pub returns-clause-accepted : goal.returns-clause-accepted
-returns-clause-accepted g c = accepted_status (seen g c) c.work-ending.result c.work-ending.ensures.ends c.finish.ensures
+returns-clause-accepted g c =
+    accepted_status (seen g c) c.work-ending.result c.work-ending.ensures.ends c.finish.ensures
 
 pub returns-clause-refused : goal.returns-clause-refused
 returns-clause-refused g c = refused_status (seen g c) c.work-ending.result c.work-ending.ensures.ends c.finish.ensures

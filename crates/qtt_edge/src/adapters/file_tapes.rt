@@ -16,7 +16,8 @@ use std::{fs, io};
 
 /// The files of a folder, one for each name, which hold the lines of their tapes.
 ///
-/// The first tape of a name empties the file of that name. A later tape of the same name adds to it.
+/// The first tape of a name empties the file of that name. A later tape of the same name adds to
+/// it.
 #[derive(Drop)]
 pub struct FileTapes<'a, R: Files> {
     rt: &'a R,
@@ -52,9 +53,12 @@ impl<'a, R: Files> FileTapes<'a, R> {
     /// Opens the file of a name. There is an end of numbers, which is a fault.
     pub fn open(&mut self, name: &str) -> Result<u32, TapeError>
         ensures number { IfOk result (λ number. number ≡ length (open_flags self.old.tapes.items)) }
-        ensures ok { OnOk result (open_flags self.new.tapes.items ≡ open_flags self.old.tapes.items ++ true ∷ []) }
-        ensures err { OnErr result (open_flags self.new.tapes.items ≡ open_flags self.old.tapes.items) }
-        ensures full { length (open_flags self.old.tapes.items) ≡ MOST_TAPES → IsErrOf result TapeError.Failed }
+        ensures ok { OnOk result (open_flags self.new.tapes.items ≡ open_flags
+            self.old.tapes.items ++ true ∷ []) }
+        ensures err { OnErr result
+            (open_flags self.new.tapes.items ≡ open_flags self.old.tapes.items) }
+        ensures full { length (open_flags self.old.tapes.items) ≡ MOST_TAPES →
+            IsErrOf result TapeError.Failed }
         ensures failed { Counts self.old.faults self.new.faults (IsErrOf result TapeError.Failed) }
     {
         let number = self.tapes.len();
@@ -90,9 +94,12 @@ impl<'a, R: Files> FileTapes<'a, R> {
 
     /// Lets the file of an open tape go. A number that is not open is a fault.
     pub fn shut(&mut self, number: u32) -> Result<(), TapeError>
-        ensures open { IsOk result ↔ (slice_get (open_flags self.old.tapes.items) number ≡ Some true) }
-        ensures ok { OnOk result (open_flags self.new.tapes.items ≡ slice_set (open_flags self.old.tapes.items) number false) }
-        ensures err { OnErr result (open_flags self.new.tapes.items ≡ open_flags self.old.tapes.items) }
+        ensures open { IsOk result ↔
+            (slice_get (open_flags self.old.tapes.items) number ≡ Some true) }
+        ensures ok { OnOk result (open_flags self.new.tapes.items ≡ slice_set
+            (open_flags self.old.tapes.items) number false) }
+        ensures err { OnErr result
+            (open_flags self.new.tapes.items ≡ open_flags self.old.tapes.items) }
         ensures error { OnErr result (IsErrOf result TapeError.Failed) }
         ensures failed { Counts self.old.faults self.new.faults (IsErrOf result TapeError.Failed) }
     {

@@ -1,6 +1,6 @@
 //! A folder of files as a vault.
 
-ghost use Rattle.std.specs.Prelude.{◌≡◌, ◌≤◌, None, IfOk, IfSome, string_bytes, vec_len};
+ghost use Rattle.std.specs.Prelude.{◌≡◌, ◌≤◌, None, IfOk, string_bytes, vec_len};
 ghost use Rattle.qtt_edge.specs.Path.{path_of, with_slashes};
 
 use crate::counts::risen;
@@ -12,8 +12,8 @@ use std::{fs, io};
 
 /// The files of a folder: the module `A.B` is the file `A/B.qtt`.
 ///
-/// A file or folder that is missing, and a file that stands where a folder should, is a miss. Every other
-/// error is a fault.
+/// A file or folder that is missing, and a file that stands where a folder should, is a miss.
+/// Every other error is a fault.
 #[derive(Drop)]
 pub struct FolderVault<'a, R> {
     rt: &'a R,

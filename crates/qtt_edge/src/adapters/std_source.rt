@@ -29,6 +29,8 @@ impl<R: Read> Source for StdSource<R> {
 
     ghost faults = { λ s. s.faults };
 
+    ghost pulls = { λ _. 0 };
+
     ghost ends = { λ s. s.ends };
 
     fn pull(&mut self, buf: &mut [u8]) -> Result<usize, SourceError> {

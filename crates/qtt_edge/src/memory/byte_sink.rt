@@ -47,12 +47,19 @@ impl<P: FailurePlan> Sink for ByteSink<P> {
 
     fn put(&mut self, bytes: &[u8]) -> Result<(), SinkError>
         ensures ok { OnOk result (Adds (told_bytes self.old) (told_bytes self.new) bytes.now) }
-        ensures err { OnErr result (AddsFront (told_bytes self.old) (told_bytes self.new) bytes.now) }
-        ensures failed { Counts (P.faults self.old.plan) (P.faults self.new.plan) (IsErrOf result SinkError.Failed) }
+        ensures err { OnErr result
+            (AddsFront (told_bytes self.old) (told_bytes self.new) bytes.now) }
+        ensures failed { Counts (P.faults self.old.plan) (P.faults self.new.plan)
+            (IsErrOf result SinkError.Failed) }
 
-        // A call fails only where the plan says so, and has then taken as many bytes as it says.
+        // Each call is one of the plan. It fails only where the plan says so, and has then taken
+        // as many bytes as it says; with want of memory it has taken none.
+        ensures advanced { self.new.plan ≡ P.advanced self.old.plan }
+        ensures memory { IsErrOf result SinkError.Memory
+            → told_bytes self.new ≡ told_bytes self.old }
         ensures unplanned { IfNone (P.upcoming self.old.plan) (result ≢ Err SinkError.Failed) }
-        ensures planned { IfSome (P.upcoming self.old.plan) (λ count. IsErrOf result SinkError.Failed
+        ensures planned { IfSome (P.upcoming self.old.plan)
+            (λ count. IsErrOf result SinkError.Failed
             → Adds (told_bytes self.old) (told_bytes self.new) (take count bytes.now)) }
         ensures no_success { OnOk result (IsNone (P.upcoming self.old.plan)) }
     {

@@ -1,6 +1,6 @@
 //! A source in memory.
 
-ghost use Rattle.std.specs.Prelude.{◌≡◌, ◌<◌, ◌≤◌, ◌↔◌, length, vec_len, is_some, IfOk, OnErr, IsSome, IsErrOf};
+ghost use Rattle.std.specs.Prelude.{◌≡◌, ◌+◌, ◌<◌, ◌≤◌, ◌↔◌, length, vec_len, is_some, IfOk, OnErr, IsSome, IsErrOf};
 ghost use Rattle.qtt_edge.specs.Counts.{Counts};
 ghost use Rattle.qtt_edge.specs.Source.{Gives, IsAtEnd};
 
@@ -22,6 +22,7 @@ impl ByteSource<NeverFails> {
     pub fn new(bytes: Vec<u8>) -> ByteSource<NeverFails>
         ensures bytes { result.bytes ≡ bytes }
         ensures at { result.at ≡ 0 }
+        ensures ends { result.ends ≡ 0 }
     {
         ByteSource {
             bytes,
@@ -37,6 +38,7 @@ impl ByteSource<FailingCalls> {
     pub fn failing(bytes: Vec<u8>, calls: Vec<u64>) -> ByteSource<FailingCalls>
         ensures bytes { result.bytes ≡ bytes }
         ensures at { result.at ≡ 0 }
+        ensures ends { result.ends ≡ 0 }
         ensures plan { result.plan ≡ record { calls = calls; made = 0; faults = 0 } }
     {
         ByteSource {
@@ -50,6 +52,7 @@ impl ByteSource<FailingCalls> {
 
 impl<P: FailurePlan> Source for ByteSource<P> {
     ghost use Rattle.qtt_edge.specs.ByteSource.{told_left};
+    ghost use Rattle.qtt_edge.specs.Pull.{Pulls};
 
     ghost content = { told_left };
 
@@ -57,19 +60,31 @@ impl<P: FailurePlan> Source for ByteSource<P> {
 
     ghost ends = { λ s. s.ends };
 
+    ghost pulls = { λ s. P.made s.plan };
+
     fn pull(&mut self, buf: &mut [u8]) -> Result<usize, SourceError>
         ensures within { IfOk result (λ count. count ≤ length buf.old) }
-        ensures gives { IfOk result (λ count. Gives (told_left self.old) (told_left self.new) buf.new count) }
+        ensures gives { IfOk result
+            (λ count. Gives (told_left self.old) (told_left self.new) buf.new count) }
         ensures end { 0 < length buf.old → result ≡ Ok 0 → IsAtEnd (told_left self.old) }
         ensures told { OnErr result (is_some (told_left self.new) ≡ is_some (told_left self.old)) }
-        ensures ended { Counts self.old.ends self.new.ends ((0 < length buf.old) × (result ≡ Ok 0)) }
-        ensures failed { Counts (P.faults self.old.plan) (P.faults self.new.plan) (IsErrOf result SourceError.Failed) }
+        ensures pulled { P.made self.new.plan ≤ P.made self.old.plan + 1 }
+        ensures ended { Counts self.old.ends self.new.ends
+            ((0 < length buf.old) × (result ≡ Ok 0)) }
+        ensures failed { Counts (P.faults self.old.plan) (P.faults self.new.plan)
+            (IsErrOf result SourceError.Failed) }
 
-        // A call fails exactly where the plan says so, and then changes nothing else.
+        // Each call is one of the plan. It fails exactly where the plan says so, and then
+        // changes nothing else. Else it gives as many bytes as are left and have room, and
+        // counts an end where there is room and none is left.
+        ensures advanced { self.new.plan ≡ P.advanced self.old.plan }
+        ensures bytes { self.new.bytes ≡ self.old.bytes }
         ensures planned { IsErrOf result SourceError.Failed ↔ IsSome (P.upcoming self.old.plan) }
         ensures kept { OnErr result (told_left self.new ≡ told_left self.old) }
         ensures no_end { OnErr result (self.new.ends ≡ self.old.ends) }
+        ensures stays { OnErr result (self.new.at ≡ self.old.at) }
         ensures buffer { OnErr result (buf.new ≡ buf.old) }
+        ensures pulls { IfOk result (Pulls self.old self.new buf.old buf.new) }
     {
         if self.plan.next().is_some() {
             return Err(SourceError::Failed);

@@ -1,8 +1,9 @@
 //! A vault in memory.
 
 ghost use Rattle.std.specs.Prelude.{◌≡◌, ◌≤◌, ◌↔◌, vec_len, IfOk, IsSome, IsErrOf};
-ghost use Rattle.qtt_edge.specs.Counts.{Counts};
-ghost use Rattle.qtt_edge.specs.Vault.{Reads};
+ghost use Rattle.std.specs.BTreeMap.{get_by_text};
+ghost use Rattle.qtt_edge.specs.Counts.{raised_if, Counts};
+ghost use Rattle.qtt_edge.specs.Vault.{is_absent, Reads};
 ghost use Rattle.qtt_edge.specs.MapVault.{told_texts};
 
 use crate::counts::risen;
@@ -21,7 +22,8 @@ pub struct MapVault<P> {
 
 impl MapVault<NeverFails> {
     pub fn new(texts: BTreeMap<String, Vec<u8>>) -> MapVault<NeverFails>
-        ensures { result.texts ≡ texts }
+        ensures texts { result.texts ≡ texts }
+        ensures misses { result.misses ≡ 0 }
     {
         MapVault {
             texts,
@@ -35,6 +37,7 @@ impl MapVault<FailingCalls> {
     /// The reads of these numbers fail, counted from 0.
     pub fn failing(texts: BTreeMap<String, Vec<u8>>, calls: Vec<u64>) -> MapVault<FailingCalls>
         ensures texts { result.texts ≡ texts }
+        ensures misses { result.misses ≡ 0 }
         ensures plan { result.plan ≡ record { calls = calls; made = 0; faults = 0 } }
     {
         MapVault {
@@ -56,12 +59,19 @@ impl<P: FailurePlan> Vault for MapVault<P> {
         ensures same { told_texts self.new ≡ told_texts self.old }
         ensures short { IfOk result (λ text. vec_len text ≤ max) }
         ensures reads { Reads (told_texts self.old) name.now max result }
-        ensures failed { Counts (P.faults self.old.plan) (P.faults self.new.plan) (IsErrOf result VaultError.Failed) }
+        ensures failed { Counts (P.faults self.old.plan) (P.faults self.new.plan)
+            (IsErrOf result VaultError.Failed) }
         ensures absent { Counts self.old.misses self.new.misses (IsErrOf result VaultError.Absent) }
 
-        // A call fails exactly where the plan says so, and then counts no miss.
+        // Each call is one of the plan, and fails exactly where the plan says so. A miss is
+        // counted exactly where no text of that name is there; for that no memory is taken.
+        ensures advanced { self.new.plan ≡ P.advanced self.old.plan }
+        ensures texts { self.new.texts ≡ self.old.texts }
         ensures planned { IsErrOf result VaultError.Failed ↔ IsSome (P.upcoming self.old.plan) }
         ensures no_miss { IsErrOf result VaultError.Failed → self.new.misses ≡ self.old.misses }
+        ensures misses { self.new.misses ≡ raised_if (is_absent result) self.old.misses }
+        ensures room { IsErrOf result VaultError.Memory
+            → IsSome (get_by_text self.old.texts name.now) }
     {
         if self.plan.next().is_some() {
             return Err(VaultError::Failed);

@@ -1,6 +1,6 @@
 //! Tapes in memory.
 
-ghost use Rattle.std.specs.Prelude.{◌≡◌, ◌↔◌, [], IfOk, IsSome, OnOk, OnErr, IsErrOf};
+ghost use Rattle.std.specs.Prelude.{◌≡◌, ◌≢◌, ◌↔◌, [], IfOk, IsSome, OnOk, OnErr, IsErrOf};
 ghost use Rattle.std.specs.Option.{ForSome};
 ghost use Rattle.qtt_prims.specs.Tapes.{new_tape, with_line};
 ghost use Rattle.qtt_edge.specs.Counts.{Counts};
@@ -64,7 +64,12 @@ impl<P: FailurePlan> Tapes for TapeRack<P> {
         ensures number { IfOk result (IsNextNumber (told_tapes self.old)) }
         ensures ok { OnOk result (Opens (told_tapes self.old) (told_tapes self.new) name.now) }
         ensures err { OnErr result (told_tapes self.new ≡ told_tapes self.old) }
-        ensures failed { Counts (P.faults self.old.plan) (P.faults self.new.plan) (IsErrOf result TapeError.Failed) }
+        ensures failed { Counts (P.faults self.old.plan) (P.faults self.new.plan)
+            (IsErrOf result TapeError.Failed) }
+
+        // Each call, of whichever method, is one of the plan, and fails exactly where the plan
+        // says so.
+        ensures advanced { self.new.plan ≡ P.advanced self.old.plan }
         ensures planned { IsErrOf result TapeError.Failed ↔ IsSome (P.upcoming self.old.plan) }
     {
         if self.plan.next().is_some() {
@@ -82,11 +87,16 @@ impl<P: FailurePlan> Tapes for TapeRack<P> {
 
     fn append(&mut self, number: u32, text: &str) -> Result<(), TapeError>
         requires { ForSome (told_tapes self.old) (IsOpenAt number) }
-        ensures ok { OnOk result (AddsLine (told_tapes self.old) (told_tapes self.new) number text.now) }
-        ensures err { OnErr result (KeepsOthers number (told_tapes self.old) (told_tapes self.new)) }
-        ensures failed { Counts (P.faults self.old.plan) (P.faults self.new.plan) (IsErrOf result TapeError.Failed) }
+        ensures ok { OnOk result (AddsLine (told_tapes self.old)
+            (told_tapes self.new) number text.now) }
+        ensures err { OnErr result
+            (KeepsOthers number (told_tapes self.old) (told_tapes self.new)) }
+        ensures failed { Counts (P.faults self.old.plan) (P.faults self.new.plan)
+            (IsErrOf result TapeError.Failed) }
 
-        // A call fails exactly where the plan says so, and an error changes no tape.
+        // Each call is one of the plan, and fails exactly where the plan says so; an error
+        // changes no tape.
+        ensures advanced { self.new.plan ≡ P.advanced self.old.plan }
         ensures planned { IsErrOf result TapeError.Failed ↔ IsSome (P.upcoming self.old.plan) }
         ensures kept { OnErr result (told_tapes self.new ≡ told_tapes self.old) }
     {
@@ -103,12 +113,17 @@ impl<P: FailurePlan> Tapes for TapeRack<P> {
     fn close(&mut self, number: u32) -> Result<(), TapeError>
         requires { ForSome (told_tapes self.old) (IsOpenAt number) }
         ensures ok { OnOk result (Closes (told_tapes self.old) (told_tapes self.new) number) }
-        ensures err { OnErr result (KeepsOthers number (told_tapes self.old) (told_tapes self.new)) }
-        ensures failed { Counts (P.faults self.old.plan) (P.faults self.new.plan) (IsErrOf result TapeError.Failed) }
+        ensures err { OnErr result
+            (KeepsOthers number (told_tapes self.old) (told_tapes self.new)) }
+        ensures failed { Counts (P.faults self.old.plan) (P.faults self.new.plan)
+            (IsErrOf result TapeError.Failed) }
 
-        // A call fails exactly where the plan says so, and an error changes no tape.
+        // Each call is one of the plan, and fails exactly where the plan says so; an error
+        // changes no tape.
+        ensures advanced { self.new.plan ≡ P.advanced self.old.plan }
         ensures planned { IsErrOf result TapeError.Failed ↔ IsSome (P.upcoming self.old.plan) }
         ensures kept { OnErr result (told_tapes self.new ≡ told_tapes self.old) }
+        ensures memory { result ≢ Err TapeError.Memory }
     {
         if self.plan.next().is_some() {
             return Err(TapeError::Failed);

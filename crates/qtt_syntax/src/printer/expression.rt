@@ -1,11 +1,9 @@
 //! The text of an expression. `blanks` stand before the column of the enclosing block.
 
-ghost use Rattle.std.specs.Prelude.{◌≡◌, ◌++◌, ◌∷◌, [], map, codes, OnOk};
+ghost use Rattle.std.specs.Prelude.{[], map, OnOk};
 ghost use Rattle.qtt_syntax.specs.Tree.{arguments, binders, statements};
 ghost use Rattle.qtt_syntax.specs.View.{tree_of, argument_of, binder_of, statement_of, written_type};
-ghost use Rattle.qtt_syntax.specs.Words.Printed.{blank};
 ghost use Rattle.qtt_syntax.specs.Printing as text;
-ghost use Rattle.qtt_syntax.specs.Printing.{key};
 ghost use Rattle.qtt_syntax.specs.Writing.{Adds};
 
 use crate::expr::{Argument, Binder, Expr, Mark, Statement};
@@ -117,7 +115,8 @@ fn put_atom(
     tree: &Expr,
     number_follows: bool,
 ) -> Result<(), MemoryError>
-    ensures { OnOk result (Adds out.old out.new (text.atom number_follows (tree_of tree.now) (text.expr blanks (tree_of tree.now)))) }
+    ensures { OnOk result (Adds out.old out.new
+        (text.atom number_follows (tree_of tree.now) (text.expr blanks (tree_of tree.now)))) }
 {
     if number_follows && is_level_0(tree) {
         return put(out, b"Type 0");
@@ -140,7 +139,9 @@ fn put_domain(
     mult: Mult,
     name: &Name,
 ) -> Result<(), MemoryError>
-    ensures { OnOk result (Adds out.old out.new (text.domain blanks mark mult name.now (tree_of tree.now) (text.expr blanks (tree_of tree.now)))) }
+    ensures { OnOk result (Adds out.old out.new
+        (text.domain blanks mark mult name.now (tree_of tree.now)
+        (text.expr blanks (tree_of tree.now)))) }
 {
     if is_arrow(mark, mult, name) {
         if is_app(tree) {
@@ -188,7 +189,8 @@ fn put_annotation(
 /// Arguments, each behind a blank.
 #[cycle(printing)]
 fn put_arguments(out: &mut Vec<u8>, blanks: usize, list: &[Argument]) -> Result<(), MemoryError>
-    ensures { OnOk result (Adds out.old out.new (text.arguments blanks (arguments (map argument_of list.now)))) }
+    ensures { OnOk result (Adds out.old out.new
+        (text.arguments blanks (arguments (map argument_of list.now)))) }
 {
     for (i, argument) in list.iter().enumerate() {
         put(out, b" ")?;
@@ -204,7 +206,8 @@ fn put_argument(
     argument: &Argument,
     number_follows: bool,
 ) -> Result<(), MemoryError>
-    ensures { OnOk result (Adds out.old out.new (text.argument_words blanks number_follows (argument_of argument.now))) }
+    ensures { OnOk result (Adds out.old out.new
+        (text.argument_words blanks number_follows (argument_of argument.now))) }
 {
     match argument {
         Argument::Written(tree) => put_atom(out, blanks, tree, number_follows),
@@ -223,7 +226,8 @@ fn put_argument(
 /// Binders of a `\`, each with a blank behind it.
 #[cycle(printing)]
 fn put_binders(out: &mut Vec<u8>, blanks: usize, list: &[Binder]) -> Result<(), MemoryError>
-    ensures { OnOk result (Adds out.old out.new (text.binders blanks (binders (map binder_of list.now)))) }
+    ensures { OnOk result (Adds out.old out.new
+        (text.binders blanks (binders (map binder_of list.now)))) }
 {
     for binder in list {
         match binder {
@@ -243,7 +247,8 @@ fn put_binders(out: &mut Vec<u8>, blanks: usize, list: &[Binder]) -> Result<(), 
 /// Statements, each on its line.
 #[cycle(printing)]
 fn put_statements(out: &mut Vec<u8>, blanks: usize, list: &[Statement]) -> Result<(), MemoryError>
-    ensures { OnOk result (Adds out.old out.new (text.statements blanks (statements (map statement_of list.now)))) }
+    ensures { OnOk result (Adds out.old out.new
+        (text.statements blanks (statements (map statement_of list.now)))) }
 {
     for statement in list {
         new_line(out, blanks)?;
@@ -254,7 +259,8 @@ fn put_statements(out: &mut Vec<u8>, blanks: usize, list: &[Statement]) -> Resul
 
 #[cycle(printing)]
 fn put_statement(out: &mut Vec<u8>, blanks: usize, statement: &Statement) -> Result<(), MemoryError>
-    ensures { OnOk result (Adds out.old out.new (text.statement blanks (statement_of statement.now))) }
+    ensures { OnOk result (Adds out.old out.new
+        (text.statement blanks (statement_of statement.now))) }
 {
     match statement {
         Statement::Bind { name, value } => {

@@ -1,6 +1,6 @@
 //! The text of patterns.
 
-ghost use Rattle.std.specs.Prelude.{◌≡◌, map, OnOk};
+ghost use Rattle.std.specs.Prelude.{map, OnOk};
 ghost use Rattle.qtt_syntax.specs.Tree.{shapes};
 ghost use Rattle.qtt_syntax.specs.View.{shape_of};
 ghost use Rattle.qtt_syntax.specs.Printing.{pattern, patterns};

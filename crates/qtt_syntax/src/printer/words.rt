@@ -74,7 +74,8 @@ pub fn put_number(out: &mut Vec<u8>, value: i64) -> Result<(), MemoryError>
 
 /// `Type`, with its level where that isn't 0.
 pub fn put_type(out: &mut Vec<u8>, level: u64) -> Result<(), MemoryError>
-    ensures { OnOk result (Adds out.old out.new (word (if nat_eq level 0 then bare_type else type_at level) ∷ [])) }
+    ensures { OnOk result (Adds out.old out.new
+        (word (if nat_eq level 0 then bare_type else type_at level) ∷ [])) }
 {
     put(out, b"Type")?;
     if level != 0 {

@@ -10,7 +10,8 @@ returns-in-Absent g c =
     let line = absent_line c.in-Absent.name.now in
     let new = c.tell_made.new.err in
     rw c.in-Absent.is
-    (reports_line c.absent_line.result line 66 c.tell_made.result (told c.args.err.now) (told new) (faults c.args.err.now) (faults new)
+    (reports_line c.absent_line.result line 66 c.tell_made.result (told c.args.err.now) (told new)
+    (faults c.args.err.now) (faults new)
     c.absent_line.ensures c.tell_made.ensures)
 
 pub returns-in-Refused : goal.returns-in-Refused
@@ -20,5 +21,6 @@ returns-in-Refused g c =
     let line = refusal_line c.in-Refused.name.now (seen c.in-Refused.fault) in
     let new = c.tell_made-in-Refused.new.err in
     rw c.in-Refused.is
-    (reports_line c.message.result line 1 c.tell_made-in-Refused.result (told c.args.err.now) (told new) (faults c.args.err.now) (faults new)
+    (reports_line c.message.result line 1 c.tell_made-in-Refused.result (told c.args.err.now) (told new)
+    (faults c.args.err.now) (faults new)
     c.message.ensures c.tell_made-in-Refused.ensures)

@@ -6,4 +6,5 @@ use Rattle.qtt_cli.proofs.hello.applied.Goals as goal
 
 pub returns-in-Apply : goal.returns-in-Apply
 returns-in-Apply c =
-    rw (ap tree_of c.in-Apply.is ∙ apply_view c.in-Apply.applied c.in-Apply.arguments c.in-Apply.span) (grind (arith, common_steps))
+    rw (ap tree_of c.in-Apply.is ∙ apply_view c.in-Apply.applied c.in-Apply.arguments c.in-Apply.span)
+    (grind (arith, common_steps))

@@ -9,7 +9,8 @@ pub returns-in-Some : goal.returns-in-Some
 returns-in-Some c =
     let read : c.args.word.now ≡ c.chars.result.rest.now = sym c.in-Ok.ensures.cases.0 ∙ sym c.chars.ensures.rest in
     c.from.ensures
-    ∙ sym (character_in_front c.args.word.now _ c.in-Some.character c.in-Ok.ensures.cases.1 (read ∙ c.in-Some.ensures.steps.0))
+    ∙ sym (character_in_front c.args.word.now _ c.in-Some.character c.in-Ok.ensures.cases.1
+    (read ∙ c.in-Some.ensures.steps.0))
 
 pub returns-in-None : goal.returns-in-None
 returns-in-None c =

@@ -10,7 +10,8 @@ use Rattle.qtt_cli.proofs.read.read.Goals as goal
 pub returns-in_err-tree-clause-lines : goal.returns-in_err-tree-clause-lines
 returns-in_err-tree-clause-lines c =
     let p = err_from_is_err_and c.from_residual.result c.from_residual.ensures.1 in
-    rw (p.1, p.2) (by_tree module_of lines_seen c.in_err-tree.field-0.0 c.args.name.now c.args.text.now c.in_err-tree.ensures)
+    rw (p.1, p.2) (by_tree module_of lines_seen c.in_err-tree.field-0.0 c.args.name.now c.args.text.now
+    c.in_err-tree.ensures)
 
 pub returns-in_err-has_name-clause-lines : goal.returns-in_err-has_name-clause-lines
 returns-in_err-has_name-clause-lines c =
@@ -22,7 +23,8 @@ returns-in_err-has_name-clause-lines c =
 pub returns-in_err-stands_alone-clause-lines : goal.returns-in_err-stands_alone-clause-lines
 returns-in_err-stands_alone-clause-lines c =
     let m = module_of c.in_ok-tree.tree in
-    let p = err_from_is_err_and c.from_residual-in_err-stands_alone.result c.from_residual-in_err-stands_alone.ensures.1 in
+    let p = err_from_is_err_and c.from_residual-in_err-stands_alone.result
+    c.from_residual-in_err-stands_alone.ensures.1 in
     rw (p.1, p.2, at_alone c.args.name.now c.args.text.now m c.in_ok-tree.ensures c.in_ok-has_name.ensures)
     (by_fault nothing lines_seen c.in_err-stands_alone.field-0.0 (stands_alone m) _ c.in_err-stands_alone.ensures)
 
@@ -30,7 +32,12 @@ pub returns-in_err-found-clause-lines : goal.returns-in_err-found-clause-lines
 returns-in_err-found-clause-lines c =
     let m = module_of c.in_ok-tree.tree in
     let p = err_from_is_err_and c.from_residual-in_err-found.result c.from_residual-in_err-found.ensures.1 in
-    rw (p.1, p.2, at_names c.args.name.now c.args.text.now m c.in_ok-tree.ensures c.in_ok-has_name.ensures c.in_ok-stands_alone.ensures)
+    rw (
+      p.1,
+      p.2,
+      at_names c.args.name.now c.args.text.now m c.in_ok-tree.ensures c.in_ok-has_name.ensures
+          c.in_ok-stands_alone.ensures,
+    )
     (by_fault module_of lines_seen c.in_err-found.field-0.0 (with_names m) _ c.in_err-found.ensures)
 
 pub returns-in-Some-clause-lines : goal.returns-in-Some-clause-lines

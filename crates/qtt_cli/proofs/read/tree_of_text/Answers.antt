@@ -32,7 +32,8 @@ returns-in_err-parse c =
     let marks = c.in_ok-marks.marks.items in
     let lay : laid tokens ≡ Ok marks = rw c.deref.ensures.value at c.in_ok-marks.ensures.exact in
     rw (p.1, p.2, at_tree c.args.text.now tokens marks (omega arith) c.in_ok-tokens.ensures.exact lay)
-    (by_grammar module_of c.in_err-parse.field-0.0 (parsed marks) (rw c.deref-2.ensures.value at c.in_err-parse.ensures.exact))
+    (by_grammar module_of c.in_err-parse.field-0.0 (parsed marks)
+    (rw c.deref-2.ensures.value at c.in_err-parse.ensures.exact))
 
 pub returns : goal.returns
 returns c =

@@ -19,5 +19,6 @@ returns-in-Ok-read-clause-ends g c =
       output = Rose (g.O.Sink.faults c.args.out.now) (g.O.Sink.faults c.run_text.new.out);
     } in
     let told = g.O.Sink.content in
-    ends_as_text words texts faults name c.in-Ok-read.text.items (told c.args.out.now) (told c.run_text.new.out) c.run_text.result whole
+    ends_as_text words texts faults name c.in-Ok-read.text.items (told c.args.out.now)
+    (told c.run_text.new.out) c.run_text.result whole
     (rw c.deref.ensures.value at c.run_text.ensures)

@@ -15,12 +15,21 @@ loop-index-init c =
 pub loop-index-preserved-in-Continue-branch-2 : goal.loop-index-preserved-in-Continue-branch-2
 loop-index-preserved-in-Continue-branch-2 c =
     let p : c.in_ok-place.place ≡ place_at (slots c.args.scope.now) (c.loop-index.index - 1) =
-    grind (arith, common_steps, c.place.ensures.place, c.try_from.ensures, c.map_err.ensures.cases, c.in_ok-place.ensures.cases) in
-    let h = push_captured c.args.captures.now c.loop-index.index _ (place_at (slots c.args.scope.now)) (flat_terms c.loop-index.values.items) c.in_ok-place.place
+    grind (
+      arith,
+      common_steps,
+      c.place.ensures.place,
+      c.try_from.ensures,
+      c.map_err.ensures.cases,
+      c.in_ok-place.ensures.cases,
+    ) in
+    let h = push_captured c.args.captures.now c.loop-index.index _ (place_at (slots c.args.scope.now))
+    (flat_terms c.loop-index.values.items) c.in_ok-place.place
     (omega arith) (omega arith) c.if-captures-index.true p c.loop-index.invariant in
     grind (arith, common_steps, flat_lemmas.the_lemmas, h, c.in_ok-push.ensures.items)
 
 pub loop-index-preserved : goal.loop-index-preserved
 loop-index-preserved c =
-    skip_captured c.args.captures.now c.loop-index.index _ (place_at (slots c.args.scope.now)) (flat_terms c.loop-index.values.items)
+    skip_captured c.args.captures.now c.loop-index.index _ (place_at (slots c.args.scope.now))
+    (flat_terms c.loop-index.values.items)
     (omega arith) (omega arith) c.if-captures-index.false c.loop-index.invariant

@@ -7,4 +7,5 @@ use Rattle.qtt_closure.proofs.Scoping.{captured_from}
 use Rattle.qtt_closure.proofs.captures.captured_values.Given as goal
 
 abbrev pub invariant-loop-index : goal.invariant-loop-index
-invariant-loop-index l = side_by_side (flat_terms l.values.items) ≡ captured_from l.index (slot_list l.captures) (place_at (slots l.scope))
+invariant-loop-index l = side_by_side (flat_terms l.values.items) ≡ captured_from l.index (slot_list l.captures)
+    (place_at (slots l.scope))

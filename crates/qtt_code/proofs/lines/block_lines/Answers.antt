@@ -10,7 +10,10 @@ pub loop-instr-preserved : goal.loop-instr-preserved
 loop-instr-preserved c =
     c.in_ok-extend_from_slice.ensures.items
     ∙ ap₂ ◌++◌ c.loop-instr.invariant (c.deref.ensures.value ∙ c.in_ok-instr_line.ensures)
-    ∙ piece-next instr_line instr (line (block_text (definitions c.args.names.now) c.args.number (block c.args.block.now))) c.args.block.now.code.items
+    ∙ piece-next instr_line instr
+    (line (block_text (definitions c.args.names.now) c.args.number (block c.args.block.now)))
+    c.args.block.now.code.items
     c.loop-instr.instr-index c.instr-item.result
     (subst (λ xs. c.loop-instr.instr-index < length xs) c.deref-instr-items.ensures.value c.loop-instr-test.true)
-    (c.instr-item.is ∙ ap (λ xs. get_or xs c.loop-instr.instr-index c.instr-item.result) c.deref-instr-items.ensures.value)
+    (c.instr-item.is ∙ ap (λ xs. get_or xs c.loop-instr.instr-index c.instr-item.result)
+    c.deref-instr-items.ensures.value)

@@ -7,4 +7,5 @@ use Rattle.qtt_code.proofs.lines.block_lines.Given as goal
 abbrev pub invariant-loop-instr : goal.invariant-loop-instr
 invariant-loop-instr l =
     l.text.items
-    ≡ line (block_text (definitions l.names) l.number (block l.block)) ++ flat_map instr_line (map instr (take l.instr-index l.block.code.items))
+    ≡ line (block_text (definitions l.names) l.number (block l.block)) ++ flat_map instr_line
+    (map instr (take l.instr-index l.block.code.items))

@@ -5,7 +5,8 @@ use Rattle.qtt_conv.specs.Stacks.{pairs}
 use Rattle.qtt_conv.proofs.comparing.one_round.Given as goal
 
 abbrev pub invariant-loop-pair : goal.invariant-loop-pair
-invariant-loop-pair l = within_count (env l.env) l.n (pairs l.stack.items) ≡ within_count (env l.env) l.n (pairs l.initial.stack.items)
+invariant-loop-pair l = within_count (env l.env) l.n (pairs l.stack.items) ≡ within_count (env l.env) l.n
+    (pairs l.initial.stack.items)
 
 abbrev pub decreases-loop-pair : goal.decreases-loop-pair
 decreases-loop-pair l = weight_of (pairs l.stack.items)

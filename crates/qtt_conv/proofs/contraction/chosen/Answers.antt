@@ -1,4 +1,4 @@
-use Rattle.std.proofs.Common.{◌≡◌, length, ap, ◌∙◌, sym, Some, arith}
+use Rattle.std.proofs.Common.{◌≡◌, length, ap, ◌∙◌, sym, Some}
 use Rattle.std.proofs.lemmas.List.{length-map}
 use Rattle.qtt_term.specs.Question.{wrap}
 use Rattle.qtt_term.specs.Substitution.{sub}
@@ -13,8 +13,10 @@ returns-in-None-branch_for c =
     let b = c.args.branching.now in
     let fs = c.in-Some.fields.now in
     let count : length fs ≡ length (terms fs) = sym (length-map fs term) in
-    ap (wrap (sub (values_in (terms fs)))) (c.in-None-branch_for.ensures ∙ ap (body_for b.family (branches b.branches.items) c.in-Some.con) count)
-    ∙ iota-chosen b.family (branches b.branches.items) (term b.motive) (term c.args.scrutinee.now) c.in-Some.con (terms fs) c.in-Some.ensures
+    ap (wrap (sub (values_in (terms fs))))
+    (c.in-None-branch_for.ensures ∙ ap (body_for b.family (branches b.branches.items) c.in-Some.con) count)
+    ∙ iota-chosen b.family (branches b.branches.items) (term b.motive) (term c.args.scrutinee.now) c.in-Some.con
+    (terms fs) c.in-Some.ensures
 
 pub returns-in_ok-subst-in-Some-branch_for : goal.returns-in_ok-subst-in-Some-branch_for
 returns-in_ok-subst-in-Some-branch_for c =
@@ -22,8 +24,10 @@ returns-in_ok-subst-in-Some-branch_for c =
     let fs = c.in-Some.fields.now in
     let count : length fs ≡ length (terms fs) = sym (length-map fs term) in
     ap Some c.in_ok-subst-in-Some-branch_for.ensures
-    ∙ ap (wrap (sub (values_in (terms fs)))) (c.in-Some-branch_for.ensures ∙ ap (body_for b.family (branches b.branches.items) c.in-Some.con) count)
-    ∙ iota-chosen b.family (branches b.branches.items) (term b.motive) (term c.args.scrutinee.now) c.in-Some.con (terms fs) c.in-Some.ensures
+    ∙ ap (wrap (sub (values_in (terms fs))))
+    (c.in-Some-branch_for.ensures ∙ ap (body_for b.family (branches b.branches.items) c.in-Some.con) count)
+    ∙ iota-chosen b.family (branches b.branches.items) (term b.motive) (term c.args.scrutinee.now) c.in-Some.con
+    (terms fs) c.in-Some.ensures
 
 pub returns-in-None : goal.returns-in-None
 returns-in-None c =

@@ -18,6 +18,7 @@ loop-frames-preserved c =
     let t = term c.in-Some.component.now in
     let pushed : c.push.new.self.items ≡ fs ++ f ∷ [] = grind (arith, common_steps) in
     record {
-      whole = plug_all-last fs f t c.push.new.self.items pushed ∙ ap (plug_all fs) around.0 ∙ c.loop-frames.invariant.whole;
+      whole = plug_all-last fs f t c.push.new.self.items pushed ∙ ap (plug_all fs) around.0 ∙
+          c.loop-frames.invariant.whole;
       waits = waits-push fs f t c.push.new.self.items pushed around.1;
     }

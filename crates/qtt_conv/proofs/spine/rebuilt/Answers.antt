@@ -7,4 +7,6 @@ use Rattle.qtt_conv.proofs.spine.rebuilt.Goals as goal
 pub loop-frame-preserved : goal.loop-frame-preserved
 loop-frame-preserved c =
     let fs = c.pop.new.self.items in
-    ap (plug_all fs) c.in_ok-inner.ensures ∙ sym (plug_all-last fs c.in-Some.frame (term c.loop-frame.inner) c.loop-frame.frames.items c.in-Some.ensures.items) ∙ c.loop-frame.invariant
+    ap (plug_all fs) c.in_ok-inner.ensures ∙
+    sym (plug_all-last fs c.in-Some.frame (term c.loop-frame.inner) c.loop-frame.frames.items
+    c.in-Some.ensures.items) ∙ c.loop-frame.invariant

@@ -10,5 +10,6 @@ returns-in_ok-inner-in-Some-clause-whole c =
     let fs = c.pop.new.self.items in
     IfOk-weaker c.entered.result _ _
     (λ s e. e ∙ ap (plug_all fs) c.in_ok-inner-in-Some.ensures
-    ∙ sym (ap (λ t. plug_all c.args.frames.items (term t)) c.in-Lit.is ∙ plug_all-last fs c.in-Some.frame _ c.args.frames.items c.in-Some.ensures.items))
+    ∙ sym (ap (λ t. plug_all c.args.frames.items (term t)) c.in-Lit.is ∙
+    plug_all-last fs c.in-Some.frame _ c.args.frames.items c.in-Some.ensures.items))
     c.entered.ensures.whole

@@ -6,4 +6,6 @@ use Rattle.qtt_core_check.proofs.matching.match_uses.Goals as goal
 
 pub returns-in-None-clause-uses : goal.returns-in-None-clause-uses
 returns-in-None-clause-uses c =
-    rw c.in-None.is (c.scale.ensures.uses ∙ sym (sum-none (length c.args.scrutinee) (usage_scale c.args.mult c.args.scrutinee) (length-scaled c.args.mult c.args.scrutinee)))
+    rw c.in-None.is (c.scale.ensures.uses ∙
+    sym (sum-none (length c.args.scrutinee) (usage_scale c.args.mult c.args.scrutinee)
+    (length-scaled c.args.mult c.args.scrutinee)))

@@ -6,4 +6,5 @@ use Rattle.qtt_core_check.proofs.matching.same_counts.Given as goal
 abbrev pub invariant-loop-place : goal.invariant-loop-place
 invariant-loop-place l =
     same_counts (map (λ b. b.0) (branches l.branches)) (map (λ c. length c.fields.items) l.constructors)
-    ≡ same_counts (map (λ b. b.0) (branches (drop l.place l.branches))) (map (λ c. length c.fields.items) (drop l.place l.constructors))
+    ≡ same_counts (map (λ b. b.0) (branches (drop l.place l.branches)))
+    (map (λ c. length c.fields.items) (drop l.place l.constructors))

@@ -24,7 +24,9 @@ returns c =
     let e : terms vs ≡ map (sub (filled c.in_ok-inner.inner.items)) (terms ts) = search rules in
     let t : side_by_side (terms ts) ≡ d.targets = search rules in
     let r : term c.in_ok-raised.raised ≡ ren (raised (length vs) (length fields)) P = search rules in
-    if-ok (λ t. term t ≡ sub (values_in (terms vs)) (term c.in_ok-raised.raised)) (λ t. term t ≡ branch_type σ d P) c.subst.result
+    if-ok (λ t. term t ≡ sub (values_in (terms vs)) (term c.in_ok-raised.raised))
+    (λ t. term t ≡ branch_type σ d P) c.subst.result
     (λ v h. h ∙ ap (sub (values_in (terms vs))) (r ∙ ap (λ k. ren (raised (length vs) k) P) l)
-    ∙ branch-seen vs (lifts n σ) ts d.targets (length vs) n P (e ∙ ap (λ τ. map (sub τ) (terms ts)) (f ∙ ap (λ k. lifts k σ) l)) t refl)
+    ∙ branch-seen vs (lifts n σ) ts d.targets (length vs) n P
+    (e ∙ ap (λ τ. map (sub τ) (terms ts)) (f ∙ ap (λ k. lifts k σ) l)) t refl)
     (search rules)

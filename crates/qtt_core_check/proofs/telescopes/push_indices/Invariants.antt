@@ -6,4 +6,5 @@ use Rattle.qtt_core_check.specs.Filled.{tele}
 use Rattle.qtt_core_check.proofs.telescopes.push_indices.Given as goal
 
 abbrev pub invariant-loop-place : goal.invariant-loop-place
-invariant-loop-place l = tele l.binders.items ≡ tele l.initial.binders.items ++ scale l.mult (index_binders 0 (terms (take l.place l.indices)))
+invariant-loop-place l = tele l.binders.items ≡ tele l.initial.binders.items ++ scale l.mult
+    (index_binders 0 (terms (take l.place l.indices)))

@@ -12,10 +12,13 @@ loop-place-preserved c =
     let x = form.Var c.in_ok-index.field-0 in
     let e : ws ≡ vs ++ x ∷ [] = search rules in
     let i : c.in_ok-index.field-0 ≡ c.args.newest + (c.args.count - 1 - c.loop-place.place) = search rules in (
-      variables-step vs ws x c.args.newest c.args.count c.loop-place.place c.in_ok-index.field-0 (above c.args.newest c.args.count) c.loop-place-test.true e (var-seen c.in_ok-index.field-0) i c.loop-place.invariant.0,
+      variables-step vs ws x c.args.newest c.args.count c.loop-place.place c.in_ok-index.field-0
+          (above c.args.newest c.args.count) c.loop-place-test.true e
+          (var-seen c.in_ok-index.field-0) i c.loop-place.invariant.0,
       length-push vs ws x c.loop-place.place e c.loop-place.invariant.1,
     )
 
 pub returns-clause-above : goal.returns-clause-above
 returns-clause-above c =
-    variables-all c.loop-place.variables.items c.args.newest c.args.count c.loop-place.place (above c.args.newest c.args.count) c.loop-place-test.false c.loop-place.invariant.0
+    variables-all c.loop-place.variables.items c.args.newest c.args.count c.loop-place.place
+    (above c.args.newest c.args.count) c.loop-place-test.false c.loop-place.invariant.0

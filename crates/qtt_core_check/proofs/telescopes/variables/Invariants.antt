@@ -6,4 +6,5 @@ use Rattle.qtt_core_check.proofs.telescopes.variables.Given as goal
 
 abbrev pub invariant-loop-place : goal.invariant-loop-place
 invariant-loop-place l =
-    (side_by_side (terms l.variables.items) +++ above l.newest (l.count - l.place) ≡ above l.newest l.count) × (length l.variables.items ≡ l.place)
+    (side_by_side (terms l.variables.items) +++ above l.newest (l.count - l.place) ≡ above l.newest l.count) ×
+    (length l.variables.items ≡ l.place)

@@ -6,4 +6,5 @@ pub returns-then-held-i-eq10 : goal.returns-then-held-i-eq10
 returns-then-held-i-eq10 c = ends_at c.args.held.now c.loop-i.i (omega arith) c.loop-i.invariant c.if-held-i-eq10.true
 
 pub loop-i-preserved : goal.loop-i-preserved
-loop-i-preserved c = rw add-one (line_of-take c.args.held.now c.loop-i.i (omega arith) c.loop-i.invariant c.if-held-i-eq10.false)
+loop-i-preserved c = rw add-one
+    (line_of-take c.args.held.now c.loop-i.i (omega arith) c.loop-i.invariant c.if-held-i-eq10.false)

@@ -30,5 +30,7 @@ invariant-erased_args-loop-k l =
 
 abbrev pub invariant-erased_all-loop-place : goal.invariant-erased_all-loop-place
 invariant-erased_all-loop-place l =
-    lean_branches l.branches.items ++ erased_branches (env l.env) (slots l.scope) l.mult (drop l.place (family_at (env l.env) l.family).constructors) (branches (drop l.place l.sources))
-    ≡ erased_branches (env l.env) (slots l.scope) l.mult (family_at (env l.env) l.family).constructors (branches l.sources)
+    lean_branches l.branches.items ++ erased_branches (env l.env) (slots l.scope) l.mult
+    (drop l.place (family_at (env l.env) l.family).constructors) (branches (drop l.place l.sources))
+    ≡ erased_branches (env l.env) (slots l.scope) l.mult (family_at (env l.env) l.family).constructors
+    (branches l.sources)

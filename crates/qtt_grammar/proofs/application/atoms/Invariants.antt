@@ -10,5 +10,8 @@ use Rattle.qtt_grammar.proofs.application.atoms.Given as goal
 
 abbrev pub invariant-atoms : goal.invariant-atoms
 invariant-atoms g l =
-    with_front (map argument_of l.found.items) (run_alike (of starts_atom) (making_at written_of (inside atom_at l.level.pass l.level.left)) (length l.laid - l.counter) l.rest)
-    ≡ with_front (map argument_of l.fn.found.items) (many_at (of starts_atom) (making_at written_of (inside atom_at l.level.pass l.level.left)) l.laid)
+    with_front (map argument_of l.found.items)
+    (run_alike (of starts_atom) (making_at written_of (inside atom_at l.level.pass l.level.left))
+    (length l.ahead - l.counter) l.rest)
+    ≡ with_front (map argument_of l.fn.found.items)
+    (many_at (of starts_atom) (making_at written_of (inside atom_at l.level.pass l.level.left)) l.ahead)

@@ -10,5 +10,7 @@ use Rattle.qtt_grammar.proofs.application.braces.Given as goal
 
 abbrev pub invariant-braces : goal.invariant-braces
 invariant-braces g l =
-    with_front (map argument_of l.found.items) (run_alike (of is_left_brace) (inside brace_at l.level.pass l.level.left) (length l.laid - l.counter) l.rest)
-    ≡ many_at (of is_left_brace) (inside brace_at l.level.pass l.level.left) l.laid
+    with_front (map argument_of l.found.items)
+    (run_alike (of is_left_brace) (inside brace_at l.level.pass l.level.left)
+    (length l.ahead - l.counter) l.rest)
+    ≡ many_at (of is_left_brace) (inside brace_at l.level.pass l.level.left) l.ahead

@@ -14,10 +14,12 @@ pub returns : goal.returns
 returns g c =
     subst
     (λ (b : Reads Binder).
-    Answers (λ v. map binder_of v.items) c.some_binders.result (making_at both (then_at b (many_at (of starts_binder) b)) c.args.laid.now))
+    Answers (λ v. map binder_of v.items) c.some_binders.result
+    (making_at both (then_at b (many_at (of starts_binder) b)) c.args.ahead.now))
     (sym (binder_is c.args.level.pass c.args.level.left c.requires.may))
     (subst
     (λ (l : Level).
     Answers (λ v. map binder_of v.items) c.some_binders.result
-    (making_at both (then_at (inside binder_at l.pass l.left) (many_at (of starts_binder) (inside binder_at l.pass l.left))) c.args.laid.now))
+    (making_at both (then_at (inside binder_at l.pass l.left)
+    (many_at (of starts_binder) (inside binder_at l.pass l.left))) c.args.ahead.now))
     c.below.ensures c.some_binders.ensures)

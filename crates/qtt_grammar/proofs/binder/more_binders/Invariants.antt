@@ -10,5 +10,8 @@ use Rattle.qtt_grammar.proofs.binder.more_binders.Given as goal
 
 abbrev pub invariant-binders : goal.invariant-binders
 invariant-binders g l =
-    with_front (map binder_of l.found.items) (run_alike (of starts_binder) (inside binder_at l.level.pass l.level.left) (length l.laid - l.counter) l.rest)
-    ≡ with_front (map binder_of l.fn.found.items) (many_at (of starts_binder) (inside binder_at l.level.pass l.level.left) l.laid)
+    with_front (map binder_of l.found.items)
+    (run_alike (of starts_binder) (inside binder_at l.level.pass l.level.left)
+    (length l.ahead - l.counter) l.rest)
+    ≡ with_front (map binder_of l.fn.found.items)
+    (many_at (of starts_binder) (inside binder_at l.level.pass l.level.left) l.ahead)

@@ -17,11 +17,18 @@ pub returns-in_err-value : goal.returns-in_err-value
 returns-in_err-value g c =
     let p = inside other_expr_at c.args.level.pass c.args.level.left c.args.tail in
     let e = err_from_is_err_and c.from_residual-in_err-value.result c.from_residual-in_err-value.ensures.1 in
-    let h : Fails c.in_err-value.field-0.0 (p c.args.laid.now) = subst (λ (r : Read Lexeme Excess Tree). Fails c.in_err-value.field-0.0 r) (no_let c.args.level.pass c.args.level.left c.args.tail c.args.laid.now c.requires.no_let) c.in_err-value.ensures in
-    rw (e.1, e.2) (made_stops run_of (placed_at place p) c.args.laid.now c.in_err-value.field-0.0 (placed_stops p c.in_ok-span.span c.args.laid.now c.in_err-value.field-0.0 c.in_ok-span.ensures h))
+    let h : Fails c.in_err-value.field-0.0 (p c.args.ahead.now) =
+    subst (λ (r : Read Lexeme Excess Tree). Fails c.in_err-value.field-0.0 r)
+    (no_let c.args.level.pass c.args.level.left c.args.tail c.args.ahead.now c.requires.no_let)
+    c.in_err-value.ensures in
+    rw (e.1, e.2) (made_stops run_of (placed_at place p) c.args.ahead.now c.in_err-value.field-0.0
+    (placed_stops p c.in_ok-span.span c.args.ahead.now c.in_err-value.field-0.0 c.in_ok-span.ensures h))
 
 pub returns : goal.returns
 returns g c =
     let p = inside other_expr_at c.args.level.pass c.args.level.left c.args.tail in
-    let h : p c.args.laid.now ≡ got (tree_of c.in_ok-value.value) c.in_ok-value.rest.now = rw (no_let c.args.level.pass c.args.level.left c.args.tail c.args.laid.now c.requires.no_let) at c.in_ok-value.ensures in
-    rw (placed_got p c.in_ok-span.span c.args.laid.now (tree_of c.in_ok-value.value) c.in_ok-value.rest.now c.in_ok-span.ensures h) refl
+    let h : p c.args.ahead.now ≡ got (tree_of c.in_ok-value.value) c.in_ok-value.rest.now =
+    rw (no_let c.args.level.pass c.args.level.left c.args.tail c.args.ahead.now c.requires.no_let) at
+    c.in_ok-value.ensures in
+    rw (placed_got p c.in_ok-span.span c.args.ahead.now (tree_of c.in_ok-value.value) c.in_ok-value.rest.now
+    c.in_ok-span.ensures h) refl

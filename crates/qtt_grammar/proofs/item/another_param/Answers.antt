@@ -10,4 +10,6 @@ use Rattle.qtt_grammar.proofs.Caps.{full_stops}
 use Rattle.qtt_grammar.proofs.item.another_param.Goals as goal
 
 pub returns-then-is_full : goal.returns-then-is_full
-returns-then-is_full c = full_stops Item c.args.level.pass quantity.Parts (of is_left_paren) (λ _. unexpected) (within param_at c.args.level.pass c.args.level.left) c.args.count c.args.laid.now c.no_more.result (sym c.if-is_full.ensures) c.no_more.ensures
+returns-then-is_full c = full_stops Item c.args.level.pass quantity.Parts (of is_left_paren) (λ _. unexpected)
+    (within param_at c.args.level.pass c.args.level.left) c.args.count c.args.ahead.now c.no_more.result
+    (sym c.if-is_full.ensures) c.no_more.ensures

@@ -11,5 +11,8 @@ use Rattle.qtt_grammar.proofs.item.params.Given as goal
 
 abbrev pub invariant-params : goal.invariant-params
 invariant-params l =
-    with_front (map param_of l.found.items) (counted_run (of is_left_paren) (up_to_at l.level.pass quantity.Parts (of is_left_paren) (λ _. unexpected) (within param_at l.level.pass l.level.left)) (length l.laid - l.counter) (length l.found.items) l.rest)
-    ≡ within params_at l.level.pass l.level.left 0 l.laid
+    with_front (map param_of l.found.items)
+    (counted_run (of is_left_paren)
+    (up_to_at l.level.pass quantity.Parts (of is_left_paren) (λ _. unexpected)
+    (within param_at l.level.pass l.level.left)) (length l.ahead - l.counter) (length l.found.items) l.rest)
+    ≡ within params_at l.level.pass l.level.left 0 l.ahead

@@ -23,5 +23,8 @@ decreases-patterns l = 4 * l.level.left + 3
 
 abbrev pub invariant-patterns-patterns : goal.invariant-patterns-patterns
 invariant-patterns-patterns l =
-    with_front (map shape_of l.found.items) (counted_run (of starts_pattern) (one_pattern_at l.level.pass (levels_at l.level.pass l.level.left)) (length l.laid - l.counter) (length l.found.items) l.rest)
-    ≡ counted_at (λ n _. suc n) (of starts_pattern) (one_pattern_at l.level.pass (levels_at l.level.pass l.level.left)) 0 l.laid
+    with_front (map shape_of l.found.items)
+    (counted_run (of starts_pattern) (one_pattern_at l.level.pass (levels_at l.level.pass l.level.left))
+    (length l.ahead - l.counter) (length l.found.items) l.rest)
+    ≡ counted_at (λ n _. suc n) (of starts_pattern)
+    (one_pattern_at l.level.pass (levels_at l.level.pass l.level.left)) 0 l.ahead

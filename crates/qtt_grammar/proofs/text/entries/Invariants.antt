@@ -7,5 +7,6 @@ use Rattle.qtt_grammar.proofs.text.entries.Given as goal
 
 abbrev pub invariant-entries : goal.invariant-entries
 invariant-entries l =
-    ReadSoFar (within entry_at l.level.pass l.level.left) (body_of l.body) (place_of l.body) (length l.laid - l.counter) l.rest (within entries_at l.level.pass l.level.left start l.laid)
+    ReadSoFar (within entry_at l.level.pass l.level.left) (body_of l.body) (place_of l.body)
+    (length l.ahead - l.counter) l.rest (within entries_at l.level.pass l.level.left start l.ahead)
     × (l.body.clauses ≤ l.counter)

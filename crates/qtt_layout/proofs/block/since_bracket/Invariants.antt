@@ -5,7 +5,8 @@ use Rattle.qtt_layout.proofs.block.since_bracket.Given as goal
 abbrev pub invariant-loop-kept : goal.invariant-loop-kept
 invariant-loop-kept l = record {
   within : l.kept ≤ length l.blocks;
-  same : length l.blocks - l.kept + suffix_len (λ block. nat_le l.brackets block.brackets) (take l.kept l.blocks) ≡ suffix_len (λ block. nat_le l.brackets block.brackets) l.blocks;
+  same : length l.blocks - l.kept + suffix_len (λ block. nat_le l.brackets block.brackets)
+      (take l.kept l.blocks) ≡ suffix_len (λ block. nat_le l.brackets block.brackets) l.blocks;
 }
 
 abbrev pub decreases-loop-kept : goal.decreases-loop-kept

@@ -7,5 +7,6 @@ use Rattle.qtt_layout.proofs.layout.marks_of.Given as goal
 abbrev pub invariant-loop-token : goal.invariant-loop-token
 invariant-loop-token l = record {
   brackets : l.between.brackets ≤ l.token-index;
-  same : written_of l.marks (put_from (state_of l.between) (drop l.token-index l.tokens)) ≡ counted_of (put_from start l.tokens);
+  same : written_of l.marks (put_from (state_of l.between) (drop l.token-index l.tokens)) ≡ counted_of
+      (put_from start l.tokens);
 }

@@ -6,7 +6,8 @@ abbrev pub invariant-steps : goal.invariant-steps
 invariant-steps l = record {
   within : length l.rest ≤ length l.characters;
   few : l.depth ≤ length l.characters - length l.rest;
-  same : option_map (λ n. length l.characters - length l.rest + n) (comment_tail l.depth l.rest) ≡ comment_tail 0 l.characters;
+  same : option_map (λ n. length l.characters - length l.rest + n) (comment_tail l.depth l.rest) ≡ comment_tail 0
+      l.characters;
 }
 
 abbrev pub decreases-steps : goal.decreases-steps

@@ -7,4 +7,5 @@ decimal-requires c = digits_pass c.args.characters.now c.digits_length-len.resul
 
 pub returns : goal.returns
 unfolding number_at
-returns c = rw (c.number_of.ensures, c.decimal.ensures, c.digits_length-len.ensures.value) (number_of-capped c.args.negative _ _)
+returns c = rw (c.number_of.ensures, c.decimal.ensures, c.digits_length-len.ensures.value)
+    (number_of-capped c.args.negative _ _)

@@ -9,4 +9,9 @@ returns-clause-value c = search (rules, chars_from_encodes)
 pub returns-clause-few : goal.returns-clause-few
 returns-clause-few c =
     let text = c.args.text.now in
-    omega (arith, ap length (returns-clause-value c), length-le-encodes (chars text), ap length (encodes-chars text c.utf8.text))
+    omega (
+      arith,
+      ap length (returns-clause-value c),
+      length-le-encodes (chars text),
+      ap length (encodes-chars text c.utf8.text),
+    )

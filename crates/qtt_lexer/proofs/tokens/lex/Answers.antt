@@ -8,12 +8,26 @@ use Rattle.qtt_lexer.proofs.tokens.lex.Goals as goal
 pub lex_characters-requires : goal.lex_characters-requires
 lex_characters-requires c =
     let bytes = c.args.bytes.now in
-    omega (arith, c.without_mark.ensures.few, ap length c.as_slice.ensures.value, c.in_ok-characters.ensures.few, ap length c.front_text-broken.ensures.text, length-take (utf8_valid_len bytes) bytes)
+    omega (
+      arith,
+      c.without_mark.ensures.few,
+      ap length c.as_slice.ensures.value,
+      c.in_ok-characters.ensures.few,
+      ap length c.front_text-broken.ensures.text,
+      length-take (utf8_valid_len bytes) bytes,
+    )
 
 pub returns-clause-exact : goal.returns-clause-exact
 unfolding lexed
 returns-clause-exact c =
-    rw (← c.front_text-broken.ensures.text, ← c.front_text-broken.ensures.broken, ← c.in_ok-characters.ensures.value, ← c.as_slice.ensures.value, ← c.without_mark.ensures.value) c.lex_characters.ensures
+    rw (
+      ← c.front_text-broken.ensures.text,
+      ← c.front_text-broken.ensures.broken,
+      ← c.in_ok-characters.ensures.value,
+      ← c.as_slice.ensures.value,
+      ← c.without_mark.ensures.value,
+    )
+    c.lex_characters.ensures
 
 pub returns-clause-text : goal.returns-clause-text
 returns-clause-text c = text_of_answer c.args.bytes.now c.lex_characters.result (returns-clause-exact c)

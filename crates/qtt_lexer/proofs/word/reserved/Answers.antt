@@ -49,4 +49,29 @@ returns-in-text c = sym (ap reserved c.in-text.is)
 
 pub returns-in_default : goal.returns-in_default
 unfolding reserved
-returns-in_default c = sym (listed_none reserved_words c.args.word.now (c.in_default.not-module, (c.in_default.not-import, (c.in_default.not-data, (c.in_default.not-where₀, (c.in_default.not-do, (c.in_default.not-let, (c.in_default.not-in, (c.in_default.not-partial, (c.in_default.not-the, (c.in_default.not-Type, (c.in_default.not-text, tt))))))))))))
+returns-in_default c = sym
+    (listed_none reserved_words c.args.word.now (
+      c.in_default.not-module,
+      (
+        c.in_default.not-import,
+        (
+          c.in_default.not-data,
+          (
+            c.in_default.not-where₀,
+            (
+              c.in_default.not-do,
+              (
+                c.in_default.not-let,
+                (
+                  c.in_default.not-in,
+                  (
+                    c.in_default.not-partial,
+                    (c.in_default.not-the, (c.in_default.not-Type, (c.in_default.not-text, tt))),
+                  ),
+                ),
+              ),
+            ),
+          ),
+        ),
+      ),
+    ))

@@ -8,5 +8,6 @@ use Rattle.qtt_lower.proofs.definition.lower_one.Given as goal
 
 abbrev pub invariant-loop-function : goal.invariant-loop-function
 invariant-loop-function l =
-    blocks l.blocks.items ++ map (block (entry (bases l.bases)) l.id) (function_list (drop l.function-index l.function-items))
+    blocks l.blocks.items ++ map (block (entry (bases l.bases)) l.id)
+    (function_list (drop l.function-index l.function-items))
     ≡ map (block (entry (bases l.bases)) l.id) (function_list l.function-items)

@@ -4,4 +4,5 @@ use Rattle.qtt_term.proofs.Order.{ascending-differ}
 use Rattle.qtt_lower.proofs.program.definition_ids_of.Goals as goal
 
 pub returns-clause-differ : goal.returns-clause-differ
-returns-clause-differ c = ascending-differ definition_id (definitions c.args.env.now) c.definitions-definitions.ensures.ascend
+returns-clause-differ c =
+    ascending-differ definition_id (definitions c.args.env.now) c.definitions-definitions.ensures.ascend

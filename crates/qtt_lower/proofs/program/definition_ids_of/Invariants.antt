@@ -4,4 +4,5 @@ use Rattle.qtt_lower.proofs.program.definition_ids_of.Given as goal
 
 abbrev pub invariant-loop-definition : goal.invariant-loop-definition
 invariant-loop-definition l =
-    l.ids.items ++ map definition_id (map definition_entry (drop l.definition-index l.definitions)) ≡ map definition_id (map definition_entry l.definitions)
+    l.ids.items ++ map definition_id (map definition_entry (drop l.definition-index l.definitions)) ≡ map
+    definition_id (map definition_entry l.definitions)

@@ -10,5 +10,6 @@ use Rattle.qtt_lower.proofs.program.parts.Goals as goal
 pub returns : goal.returns
 returns g c =
     if_ok c.grouped.result c.grouped.ensures
-    (λ v a. answered-map _ _ (λ p. blocks p.items) (λ d. blocks_of (bases c.args.bases.now) d (erased_bodies (env c.args.env.now) d))
+    (λ v a. answered-map _ _ (λ p. blocks p.items)
+    (λ d. blocks_of (bases c.args.bases.now) d (erased_bodies (env c.args.env.now) d))
     (λ j x call. search (rules, call.met)) c.args.ids.now v.items a)

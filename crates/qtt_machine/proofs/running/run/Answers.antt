@@ -12,13 +12,15 @@ ticks-init c = record { ready = c.requires; way = Reaches.here }
 pub returns-in-Ended : goal.returns-in-Ended
 returns-in-Ended c =
     let a = rw c.in-Ended.is at c.in_ok-to_tick.ensures in
-    ran_to_end (program c.args.program.now) (state c.args.frames.now) (state c.ticks.frames) c.ticks.made c.ticks.invariant.way c.args.ticks (omega arith) c.in-Ended.value
+    ran_to_end (program c.args.program.now) (state c.args.frames.now)
+    (state c.ticks.frames) c.ticks.made c.ticks.invariant.way c.args.ticks (omega arith) c.in-Ended.value
     c.to_tick.new.frames a
 
 pub returns-in-Trapped : goal.returns-in-Trapped
 returns-in-Trapped c =
     let a = rw c.in-Trapped.is at c.in_ok-to_tick.ensures in
-    ran_to_trap (program c.args.program.now) (state c.args.frames.now) (state c.ticks.frames) c.ticks.made c.ticks.invariant.way c.args.ticks (omega arith) c.in-Trapped.kind
+    ran_to_trap (program c.args.program.now) (state c.args.frames.now)
+    (state c.ticks.frames) c.ticks.made c.ticks.invariant.way c.args.ticks (omega arith) c.in-Trapped.kind
     c.to_tick.new.frames a
 
 pub ticks-preserved : goal.ticks-preserved
@@ -26,12 +28,14 @@ ticks-preserved c =
     let a = rw c.in-Ticked.is at c.in_ok-to_tick.ensures in
     record {
       ready = a.1;
-      way = one_more (program c.args.program.now) (state c.args.frames.now) (state c.ticks.frames) c.ticks.made c.ticks.invariant.way (state c.to_tick.new.frames) a.0;
+      way = one_more (program c.args.program.now) (state c.args.frames.now)
+          (state c.ticks.frames) c.ticks.made c.ticks.invariant.way (state c.to_tick.new.frames) a.0;
     }
 
 pub returns : goal.returns
 returns c =
     let P = program c.args.program.now in
     let e : c.ticks.made ≡ c.args.ticks = omega arith in
-    ran_up P (state c.args.frames.now) (state c.ticks.frames) c.args.ticks (subst (λ n. Reaches P n (state c.args.frames.now) (state c.ticks.frames)) e c.ticks.invariant.way)
+    ran_up P (state c.args.frames.now) (state c.ticks.frames) c.args.ticks
+    (subst (λ n. Reaches P n (state c.args.frames.now) (state c.ticks.frames)) e c.ticks.invariant.way)
     c.in_ok-halt.halt c.to_halt.new.frames c.in_ok-halt.ensures

@@ -6,4 +6,8 @@ use Rattle.qtt_machine.proofs.running.run.Given as goal
 
 abbrev pub invariant-ticks : goal.invariant-ticks
 invariant-ticks l =
-    record { ready : MayRun (program l.program) l.frames; way : Reaches (program l.program) l.made (state l.initial.frames) (state l.frames) }
+    record {
+      ready : MayRun (program l.program) l.frames;
+      way : Reaches (program l.program) l.made
+          (state l.initial.frames) (state l.frames);
+    }

@@ -11,23 +11,24 @@ use Rattle.qtt_machine.proofs.running.to_halt.Goals as goal
 pub instructions-init : goal.instructions-init
 instructions-init c = record { ready = c.requires; way = Reaches.here }
 
-pub ticks_next-requires-clause-unstuck : goal.ticks_next-requires-clause-unstuck
-ticks_next-requires-clause-unstuck c = is_unstuck (program c.args.program.now) c.instructions.frames c.instructions.invariant.ready
+pub ticks_next-requires : goal.ticks_next-requires
+ticks_next-requires c = is_unstuck (program c.args.program.now) c.instructions.frames c.instructions.invariant.ready
 
-pub step-requires-clause-unstuck : goal.step-requires-clause-unstuck
-step-requires-clause-unstuck c = is_unstuck (program c.args.program.now) c.instructions.frames c.instructions.invariant.ready
+pub step-requires : goal.step-requires
+step-requires c = is_unstuck (program c.args.program.now) c.instructions.frames c.instructions.invariant.ready
 
 pub instructions-smaller : goal.instructions-smaller
 instructions-smaller c =
-    fewer_left (program c.args.program.now) c.instructions.frames c.instructions.invariant.ready (state c.step.new.frames)
-    (c.in_ok-step.ensures.is ∙ ap (λ e. did e (state c.step.new.frames)) c.in-Went.is)
+    fewer_left (program c.args.program.now) c.instructions.frames c.instructions.invariant.ready
+    (state c.step.new.frames)
+    (c.in_ok-step.ensures ∙ ap (λ e. did e (state c.step.new.frames)) c.in-Went.is)
 
 pub instructions-preserved : goal.instructions-preserved
 instructions-preserved c =
     let P = program c.args.program.now in
     let e : instruction P (state c.instructions.frames) ≡ Did.goes (state c.step.new.frames) =
-    c.in_ok-step.ensures.is ∙ ap (λ e. did e (state c.step.new.frames)) c.in-Went.is in
+    c.in_ok-step.ensures ∙ ap (λ e. did e (state c.step.new.frames)) c.in-Went.is in
     record {
-      ready = goes_on P c.instructions.frames c.instructions.invariant.ready c.step.new.frames c.in_ok-step.ensures.stacked e;
+      ready = goes_on P c.instructions.frames c.instructions.invariant.ready c.step.new.frames e;
       way = then_goes P c.instructions.invariant.way e;
     }

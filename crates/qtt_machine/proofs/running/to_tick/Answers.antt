@@ -11,21 +11,22 @@ use Rattle.qtt_machine.proofs.running.to_tick.Goals as goal
 pub instructions-init : goal.instructions-init
 instructions-init c = record { ready = c.requires; way = Reaches.here }
 
-pub step-requires-clause-unstuck : goal.step-requires-clause-unstuck
-step-requires-clause-unstuck c = is_unstuck (program c.args.program.now) c.instructions.frames c.instructions.invariant.ready
+pub step-requires : goal.step-requires
+step-requires c = is_unstuck (program c.args.program.now) c.instructions.frames c.instructions.invariant.ready
 
 pub instructions-smaller : goal.instructions-smaller
 instructions-smaller c =
-    fewer_left (program c.args.program.now) c.instructions.frames c.instructions.invariant.ready (state c.step.new.frames)
-    (c.in_ok-step.ensures.is ∙ ap (λ e. did e (state c.step.new.frames)) c.in-Went.is)
+    fewer_left (program c.args.program.now) c.instructions.frames c.instructions.invariant.ready
+    (state c.step.new.frames)
+    (c.in_ok-step.ensures ∙ ap (λ e. did e (state c.step.new.frames)) c.in-Went.is)
 
 pub instructions-preserved : goal.instructions-preserved
 instructions-preserved c =
     let P = program c.args.program.now in
     let e : instruction P (state c.instructions.frames) ≡ Did.goes (state c.step.new.frames) =
-    c.in_ok-step.ensures.is ∙ ap (λ e. did e (state c.step.new.frames)) c.in-Went.is in
+    c.in_ok-step.ensures ∙ ap (λ e. did e (state c.step.new.frames)) c.in-Went.is in
     record {
-      ready = goes_on P c.instructions.frames c.instructions.invariant.ready c.step.new.frames c.in_ok-step.ensures.stacked e;
+      ready = goes_on P c.instructions.frames c.instructions.invariant.ready c.step.new.frames e;
       way = then_goes P c.instructions.invariant.way e;
     }
 
@@ -33,7 +34,7 @@ pub returns-in-Ticked : goal.returns-in-Ticked
 returns-in-Ticked c =
     let P = program c.args.program.now in
     let e : instruction P (state c.instructions.frames) ≡ Did.ticks (state c.step.new.frames) =
-    c.in_ok-step.ensures.is ∙ ap (λ e. did e (state c.step.new.frames)) c.in-Ticked.is in (
+    c.in_ok-step.ensures ∙ ap (λ e. did e (state c.step.new.frames)) c.in-Ticked.is in (
       record { last = state c.instructions.frames; way = c.instructions.invariant.way; is = e },
-      ticks_on P c.instructions.frames c.instructions.invariant.ready c.step.new.frames c.in_ok-step.ensures.stacked e,
+      ticks_on P c.instructions.frames c.instructions.invariant.ready c.step.new.frames e,
     )

@@ -7,7 +7,10 @@ use Rattle.qtt_machine.proofs.running.to_tick.Given as goal
 
 abbrev pub invariant-instructions : goal.invariant-instructions
 invariant-instructions l =
-    record { ready : MayRun (program l.program) l.frames; way : Reaches (program l.program) 0 (state l.initial.frames) (state l.frames) }
+    record {
+      ready : MayRun (program l.program) l.frames;
+      way : Reaches (program l.program) 0 (state l.initial.frames) (state l.frames);
+    }
 
 abbrev pub decreases-instructions : goal.decreases-instructions
 decreases-instructions l = instructions_left (state l.frames)

@@ -9,4 +9,5 @@ pub tail_hole-returns-in-Do : goal.tail_hole-returns-in-Do
 tail_hole-returns-in-Do t c = rw (do_form _ _ _ c.in-Do.is) (grind (arith, common_steps))
 
 pub last_hole-returns-in-Some : goal.last_hole-returns-in-Some
-last_hole-returns-in-Some t c = c.statement_hole.ensures ∙ ap hole_at c.in-Some.ensures.value ∙ sym (last_hole-statements c.args.source.now)
+last_hole-returns-in-Some t c =
+    c.statement_hole.ensures ∙ ap hole_at c.in-Some.ensures.value ∙ sym (last_hole-statements c.args.source.now)

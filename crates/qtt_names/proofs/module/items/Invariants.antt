@@ -9,6 +9,7 @@ abbrev pub invariant-loop-item : goal.invariant-loop-item
 invariant-loop-item l =
     let before : Before = record { items = l.items; groups = l.groups.keys; last = l.last; holes = l.holes.keys } in
     record {
-      so_far : filled_items (scope l.scope) at_start (map item_of (take l.item-index l.text)) ≡ Ok (map item_of l.done.items);
+      so_far : filled_items (scope l.scope) at_start (map item_of (take l.item-index l.text)) ≡ Ok
+          (map item_of l.done.items);
       behind : before ≡ fold behind at_start (map item_of (take l.item-index l.text));
     }

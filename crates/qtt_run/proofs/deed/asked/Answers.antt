@@ -13,36 +13,46 @@ pub one-requires : goal.one-requires
 one-requires c =
     let vs = values c.as_action-kind.result.1.now in
     let at : (k : ActKind) → c.as_action-kind.result.0 ≡ k → IsPerformed (Value.action (action k) (side_by_side vs)) =
-    λ k e. subst IsPerformed (c.as_action-kind.ensures ∙ ap (λ k. Value.action (action k) (side_by_side vs)) e) c.requires in
+    λ k e. subst IsPerformed (c.as_action-kind.ensures ∙ ap (λ k. Value.action (action k) (side_by_side vs)) e)
+    c.requires in
     elim c.in-Pure.is [ inl e ↦ pure-parts Io.io vs (at kind.Pure e) | inr e ↦ pure-parts Io.io1 vs (at kind.Pure1 e) ]
 
 pub one-requires-in-PutLine : goal.one-requires-in-PutLine
 one-requires-in-PutLine c =
     let vs = values c.as_action-kind.result.1.now in
-    let (s, e) = put-parts vs (subst IsPerformed (c.as_action-kind.ensures ∙ ap (λ k. Value.action (action k) (side_by_side vs)) c.in-PutLine.is) c.requires) in (_, e)
+    let (s, e) = put-parts vs
+    (subst IsPerformed (c.as_action-kind.ensures ∙ ap (λ k. Value.action (action k) (side_by_side vs))
+    c.in-PutLine.is) c.requires) in (_, e)
 
 pub one-requires-in-Open : goal.one-requires-in-Open
 one-requires-in-Open c =
     let vs = values c.as_action-kind.result.1.now in
-    let (s, e) = open-parts vs (subst IsPerformed (c.as_action-kind.ensures ∙ ap (λ k. Value.action (action k) (side_by_side vs)) c.in-Open.is) c.requires) in (_, e)
+    let (s, e) = open-parts vs
+    (subst IsPerformed (c.as_action-kind.ensures ∙ ap (λ k. Value.action (action k) (side_by_side vs))
+    c.in-Open.is) c.requires) in (_, e)
 
 pub two-requires : goal.two-requires
 two-requires c =
     let vs = values c.as_action-kind.result.1.now in
-    let (n, s, e) = write-parts vs (subst IsPerformed (c.as_action-kind.ensures ∙ ap (λ k. Value.action (action k) (side_by_side vs)) c.in-Write.is) c.requires) in
+    let (n, s, e) = write-parts vs
+    (subst IsPerformed (c.as_action-kind.ensures ∙ ap (λ k. Value.action (action k) (side_by_side vs))
+    c.in-Write.is) c.requires) in
     (_, _, e)
 
 pub one-requires-in-Close : goal.one-requires-in-Close
 one-requires-in-Close c =
     let vs = values c.as_action-kind.result.1.now in
-    let (n, e) = close-parts vs (subst IsPerformed (c.as_action-kind.ensures ∙ ap (λ k. Value.action (action k) (side_by_side vs)) c.in-Close.is) c.requires) in
+    let (n, e) = close-parts vs
+    (subst IsPerformed (c.as_action-kind.ensures ∙ ap (λ k. Value.action (action k) (side_by_side vs))
+    c.in-Close.is) c.requires) in
     (_, e)
 
 pub two-requires-in-BindIoIo : goal.two-requires-in-BindIoIo
 two-requires-in-BindIoIo c =
     let vs = values c.as_action-kind.result.1.now in
     let at : (k : ActKind) → c.as_action-kind.result.0 ≡ k → IsPerformed (Value.action (action k) (side_by_side vs)) =
-    λ k e. subst IsPerformed (c.as_action-kind.ensures ∙ ap (λ k. Value.action (action k) (side_by_side vs)) e) c.requires in
+    λ k e. subst IsPerformed (c.as_action-kind.ensures ∙ ap (λ k. Value.action (action k) (side_by_side vs)) e)
+    c.requires in
     elim c.in-BindIoIo.is [
       | inl e ↦ bind-parts Io.io Io.io vs (at kind.BindIoIo e)
       | inr f ↦ elim f [

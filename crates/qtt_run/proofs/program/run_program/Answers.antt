@@ -20,9 +20,12 @@ returns-in_err-running-clause-runs g c = λ E k.
     let content = g.S.Source.content c.args.input.now in
     let held = g.O.Sink.content c.args.out.now in
     let told = g.T.Tapes.tapes c.args.tapes.now in
-    let o = origin c.args.compiled.now c.args.main E k c.in-Some.block begins c.args.bound c.requires.steps content held told in
-    answered c.args.compiled.now c.args.main E k o refl begins held told 0 c.args.bound (omega arith) (Err stop.Memory) c.from_residual.result
-    (start-broken c.args.compiled.now c.args.main E k c.in-Some.block begins c.args.bound c.requires.steps content held told c.requires.empty)
+    let o = origin c.args.compiled.now c.args.main E k c.in-Some.block begins c.args.bound c.requires.steps
+    content held told in
+    answered c.args.compiled.now c.args.main E k o refl begins held told 0 c.args.bound (omega arith)
+    (Err stop.Memory) c.from_residual.result
+    (start-broken c.args.compiled.now c.args.main E k c.in-Some.block begins c.args.bound c.requires.steps content
+    held told c.requires.empty)
     (error-is c.from_residual.result c.from_residual.ensures.0)
 
 pub go_on-came-requires : goal.go_on-came-requires
@@ -34,7 +37,8 @@ go_on-came-requires g c =
     let told = g.T.Tapes.tapes c.args.tapes.now in
     let s = c.in_ok-running.ensures in (
       origin c.args.compiled.now c.args.main E k c.in-Some.block begins c.args.bound c.requires.steps content held told,
-      begins-underway c.args.compiled.now c.args.main E k c.in-Some.block begins c.args.bound c.requires.steps content held told
+      begins-underway c.args.compiled.now c.args.main E k c.in-Some.block begins c.args.bound c.requires.steps
+          content held told
           c.in_ok-running.running s.stands (s.rests content) s.left c.requires.empty (s.mirrors told c.requires.empty),
     )
 
@@ -46,12 +50,14 @@ overflow_sub-bound g c =
     let held = g.O.Sink.content c.args.out.now in
     let told = g.T.Tapes.tapes c.args.tapes.now in
     let s = c.in_ok-running.ensures in
-    let o = origin c.args.compiled.now c.args.main E k c.in-Some.block begins c.args.bound c.requires.steps content held told in
+    let o = origin c.args.compiled.now c.args.main E k c.in-Some.block begins c.args.bound c.requires.steps
+    content held told in
     let left = c.go_on-came.new.self.left in
     let u = g.O.Sink.content c.go_on-came.new.out in
     let t = g.T.Tapes.tapes c.go_on-came.new.tapes in
     let came = c.go_on-came.ensures.comes o
-    (begins-underway c.args.compiled.now c.args.main E k c.in-Some.block begins c.args.bound c.requires.steps content held told
+    (begins-underway c.args.compiled.now c.args.main E k c.in-Some.block begins c.args.bound c.requires.steps
+    content held told
     c.in_ok-running.running s.stands (s.rests content) s.left c.requires.empty (s.mirrors told c.requires.empty)) in
     let most : left ≤ c.args.bound = came-left o left u t c.go_on-came.result came in
     omega (arith, c.left.ensures, most)
@@ -63,16 +69,19 @@ returns-clause-runs g c = λ E k.
     let held = g.O.Sink.content c.args.out.now in
     let told = g.T.Tapes.tapes c.args.tapes.now in
     let s = c.in_ok-running.ensures in
-    let o = origin c.args.compiled.now c.args.main E k c.in-Some.block begins c.args.bound c.requires.steps content held told in
+    let o = origin c.args.compiled.now c.args.main E k c.in-Some.block begins c.args.bound c.requires.steps
+    content held told in
     let left = c.go_on-came.new.self.left in
     let u = g.O.Sink.content c.go_on-came.new.out in
     let t = g.T.Tapes.tapes c.go_on-came.new.tapes in
     let came = c.go_on-came.ensures.comes o
-    (begins-underway c.args.compiled.now c.args.main E k c.in-Some.block begins c.args.bound c.requires.steps content held told
+    (begins-underway c.args.compiled.now c.args.main E k c.in-Some.block begins c.args.bound c.requires.steps
+    content held told
     c.in_ok-running.running s.stands (s.rests content) s.left c.requires.empty (s.mirrors told c.requires.empty)) in
     let most : left ≤ c.args.bound = came-left o left u t c.go_on-came.result came in
     let counted : (c.args.bound - c.left.result) + left ≡ c.args.bound = omega (arith, c.left.ensures, most) in
-    answered c.args.compiled.now c.args.main E k o refl begins u t (c.args.bound - c.left.result) left counted c.go_on-came.result
+    answered c.args.compiled.now c.args.main E k o refl begins u t (c.args.bound - c.left.result) left counted
+    c.go_on-came.result
     c.answer.result came c.answer.ensures
 
 pub returns-clause-source : goal.returns-clause-source
@@ -83,15 +92,18 @@ returns-clause-source g c =
     let held = g.O.Sink.content c.args.out.now in
     let told = g.T.Tapes.tapes c.args.tapes.now in
     let s = c.in_ok-running.ensures in
-    let o = origin c.args.compiled.now c.args.main E k c.in-Some.block begins c.args.bound c.requires.steps content held told in
+    let o = origin c.args.compiled.now c.args.main E k c.in-Some.block begins c.args.bound c.requires.steps
+    content held told in
     let left = c.go_on-came.new.self.left in
     let u = g.O.Sink.content c.go_on-came.new.out in
     let t = g.T.Tapes.tapes c.go_on-came.new.tapes in
     let came = c.go_on-came.ensures.comes o
-    (begins-underway c.args.compiled.now c.args.main E k c.in-Some.block begins c.args.bound c.requires.steps content held told
+    (begins-underway c.args.compiled.now c.args.main E k c.in-Some.block begins c.args.bound c.requires.steps
+    content held told
     c.in_ok-running.running s.stands (s.rests content) s.left c.requires.empty (s.mirrors told c.requires.empty)) in
     counts-so c.go_on-came.ensures.source
-    (λ x. source-failed o left u t (c.args.bound - c.left.result) c.go_on-came.result c.answer.result came c.answer.ensures x)
+    (λ x. source-failed o left u t (c.args.bound - c.left.result) c.go_on-came.result c.answer.result came
+    c.answer.ensures x)
 
 pub returns-clause-sink : goal.returns-clause-sink
 returns-clause-sink g c =
@@ -101,15 +113,18 @@ returns-clause-sink g c =
     let held = g.O.Sink.content c.args.out.now in
     let told = g.T.Tapes.tapes c.args.tapes.now in
     let s = c.in_ok-running.ensures in
-    let o = origin c.args.compiled.now c.args.main E k c.in-Some.block begins c.args.bound c.requires.steps content held told in
+    let o = origin c.args.compiled.now c.args.main E k c.in-Some.block begins c.args.bound c.requires.steps
+    content held told in
     let left = c.go_on-came.new.self.left in
     let u = g.O.Sink.content c.go_on-came.new.out in
     let t = g.T.Tapes.tapes c.go_on-came.new.tapes in
     let came = c.go_on-came.ensures.comes o
-    (begins-underway c.args.compiled.now c.args.main E k c.in-Some.block begins c.args.bound c.requires.steps content held told
+    (begins-underway c.args.compiled.now c.args.main E k c.in-Some.block begins c.args.bound c.requires.steps
+    content held told
     c.in_ok-running.running s.stands (s.rests content) s.left c.requires.empty (s.mirrors told c.requires.empty)) in
     counts-so c.go_on-came.ensures.sink
-    (λ x. sink-failed o left u t (c.args.bound - c.left.result) c.go_on-came.result c.answer.result came c.answer.ensures x)
+    (λ x. sink-failed o left u t (c.args.bound - c.left.result) c.go_on-came.result c.answer.result came
+    c.answer.ensures x)
 
 pub returns-clause-tape : goal.returns-clause-tape
 returns-clause-tape g c =
@@ -119,12 +134,15 @@ returns-clause-tape g c =
     let held = g.O.Sink.content c.args.out.now in
     let told = g.T.Tapes.tapes c.args.tapes.now in
     let s = c.in_ok-running.ensures in
-    let o = origin c.args.compiled.now c.args.main E k c.in-Some.block begins c.args.bound c.requires.steps content held told in
+    let o = origin c.args.compiled.now c.args.main E k c.in-Some.block begins c.args.bound c.requires.steps
+    content held told in
     let left = c.go_on-came.new.self.left in
     let u = g.O.Sink.content c.go_on-came.new.out in
     let t = g.T.Tapes.tapes c.go_on-came.new.tapes in
     let came = c.go_on-came.ensures.comes o
-    (begins-underway c.args.compiled.now c.args.main E k c.in-Some.block begins c.args.bound c.requires.steps content held told
+    (begins-underway c.args.compiled.now c.args.main E k c.in-Some.block begins c.args.bound c.requires.steps
+    content held told
     c.in_ok-running.running s.stands (s.rests content) s.left c.requires.empty (s.mirrors told c.requires.empty)) in
     counts-so c.go_on-came.ensures.tape
-    (λ x. tape-failed o left u t (c.args.bound - c.left.result) c.go_on-came.result c.answer.result came c.answer.ensures x)
+    (λ x. tape-failed o left u t (c.args.bound - c.left.result) c.go_on-came.result c.answer.result came
+    c.answer.ensures x)

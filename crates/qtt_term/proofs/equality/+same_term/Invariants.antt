@@ -1,12 +1,9 @@
-use Rattle.std.proofs.Common.{◌≡◌, ◌++◌, take, drop}
+use Rattle.std.proofs.Common.{◌≡◌, take}
 use Rattle.qtt_term.specs.View.{terms, branches}
 use Rattle.qtt_term.proofs.equality.+same_term.Given as goal
 
 abbrev pub invariant-same_all-loop-i : goal.invariant-same_all-loop-i
 invariant-same_all-loop-i l = terms (take l.i l.ones) ≡ terms (take l.i l.others)
-
-abbrev pub invariant-same_part-loop-i : goal.invariant-same_part-loop-i
-invariant-same_part-loop-i l = terms (take l.i l.part) ≡ take l.i (drop l.from (terms (l.front ++ l.back)))
 
 abbrev pub invariant-same_branches-loop-i : goal.invariant-same_branches-loop-i
 invariant-same_branches-loop-i l = branches (take l.i l.ones) ≡ branches (take l.i l.others)

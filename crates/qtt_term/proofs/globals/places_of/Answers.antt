@@ -17,7 +17,9 @@ loop-place-preserved c =
     let count : 0 + length so_far ≡ k = omega (arith, length-map (take k cs) constructor_entry, length-take k cs, lt) in
     let here = c.constructor-item.is ∙ ap (λ ys. get_or ys k x) c.deref-constructor-items.ensures.value in
     let at : map constructor_entry (take (k + 1) cs) ≡ so_far ++ constructor_entry x ∷ [] =
-    ap (map constructor_entry) (take_more cs k x lt ∙ ap (λ y. take k cs ++ y ∷ []) (sym here)) ∙ map-append constructor_entry (take k cs) (x ∷ []) in
-    c.in_ok-push.ensures.items ∙ ap (λ ps. ps ++ record { id = x.id; con = record { family = f; place = k } } ∷ []) c.loop-place.invariant
+    ap (map constructor_entry) (take_more cs k x lt ∙ ap (λ y. take k cs ++ y ∷ []) (sym here)) ∙
+    map-append constructor_entry (take k cs) (x ∷ []) in
+    c.in_ok-push.ensures.items ∙
+    ap (λ ps. ps ++ record { id = x.id; con = record { family = f; place = k } } ∷ []) c.loop-place.invariant
     ∙ sym (ap (λ n. places_from f 0 so_far ++ record { id = x.id; con = record { family = f; place = n } } ∷ []) count)
     ∙ sym more ∙ sym (ap (places_from f 0) at)

@@ -8,5 +8,6 @@ invariant-loop-item g l = record {
   room : vec_len l.items + length (into_iter_items l.item-iterator) ≤ vec_capacity l.items;
   ascend : IsTrue (ascends g.T.Keyed.key l.items.items);
   new_ids : CanInsertAll g.T.Keyed.key (into_iter_items l.item-iterator) l.items.items;
-  goes_on : all_inserted g.T.Keyed.key (into_iter_items l.item-iterator) l.items.items ≡ all_inserted g.T.Keyed.key l.fn.more.items l.fn.items.items;
+  goes_on : all_inserted g.T.Keyed.key (into_iter_items l.item-iterator) l.items.items ≡ all_inserted
+      g.T.Keyed.key l.fn.more.items l.fn.items.items;
 }

@@ -12,13 +12,16 @@ use Rattle.qtt_term.proofs.keyed.search.Goals as goal
 
 by_ids : IsIdOrder (ord.ghosts).cmp
 by_ids a b =
-    by_parts a.module.0 b.module.0 a.item b.item (nat_cmp a.module.0 b.module.0) (nat_cmp a.item b.item) (ranks a.module.0 b.module.0) (ranks a.item b.item)
+    by_parts a.module.0 b.module.0 a.item b.item (nat_cmp a.module.0 b.module.0) (nat_cmp a.item b.item)
+    (ranks a.module.0 b.module.0) (ranks a.item b.item)
   where
     id : ℕ → ℕ → GlobalId
     id m i = record { «module» = record { 0 = m }; item = i }
 
-    by_parts : (m n i j : ℕ) (o r : Ordering) → MatchOrdering o (m < n) (m ≡ n) (n < m) → MatchOrdering r (i < j) (i ≡ j) (j < i) →
-        MatchOrdering (ordering_then o r) (id_before (id m i) (id n j) ≡ true) (id m i ≡ id n j) (id_before (id n j) (id m i) ≡ true)
+    by_parts : (m n i j : ℕ) (o r : Ordering) → MatchOrdering o (m < n) (m ≡ n) (n < m) →
+        MatchOrdering r (i < j) (i ≡ j) (j < i) →
+        MatchOrdering (ordering_then o r) (id_before (id m i) (id n j) ≡ true) (id m i ≡ id n j)
+        (id_before (id n j) (id m i) ≡ true)
     by_parts m n i j Less r lt h = grind (arith, nat_tests)
     by_parts m n i j Greater r lt h = grind (arith, nat_tests)
     by_parts m n i j Equal Less e lt = grind (arith, nat_tests)
@@ -29,10 +32,12 @@ pub returns-clause-found : goal.returns-clause-found
 returns-clause-found g c =
     let facts = c.binary_search_by_key.ensures in
     let by_key = facts.position g.T.Keyed.key (answers_always _ _ _ (λ f a r h called. search rules)) in
-    (searched (ord.ghosts).cmp by_ids g.T.Keyed.key c.args.id c.args.items.now c.requires c.binary_search_by_key.result facts.bound by_key).0
+    (searched (ord.ghosts).cmp by_ids g.T.Keyed.key c.args.id c.args.items.now c.requires
+    c.binary_search_by_key.result facts.bound by_key).0
 
 pub returns-clause-absent : goal.returns-clause-absent
 returns-clause-absent g c =
     let facts = c.binary_search_by_key.ensures in
     let by_key = facts.position g.T.Keyed.key (answers_always _ _ _ (λ f a r h called. search rules)) in
-    (searched (ord.ghosts).cmp by_ids g.T.Keyed.key c.args.id c.args.items.now c.requires c.binary_search_by_key.result facts.bound by_key).1
+    (searched (ord.ghosts).cmp by_ids g.T.Keyed.key c.args.id c.args.items.now c.requires
+    c.binary_search_by_key.result facts.bound by_key).1

@@ -7,4 +7,5 @@ abbrev pub invariant-all_in_range-loop-source : goal.invariant-all_in_range-loop
 invariant-all_in_range-loop-source l = AllInRange (side_by_side (terms (take l.source-index l.sources)))
 
 abbrev pub invariant-branches_in_range-loop-source : goal.invariant-branches_in_range-loop-source
-invariant-branches_in_range-loop-source l = AllInRange (side_by_side (map (λ b. b.1) (branches (take l.source-index l.sources))))
+invariant-branches_in_range-loop-source l =
+    AllInRange (side_by_side (map (λ b. b.1) (branches (take l.source-index l.sources))))

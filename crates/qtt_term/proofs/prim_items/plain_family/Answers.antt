@@ -25,7 +25,9 @@ returns c =
     let name = c.in_ok-prim_name.field-0 in
     let ps = c.new.result.items in
     let is = c.new-2.result.items in
-    ap (λ i. entry i name ps is ds es) c.prim_id.ensures ∙ ap (λ n. entry (prim_id c.args.item) n ps is ds es) c.in_ok-prim_name.ensures
+    ap (λ i. entry i name ps is ds es) c.prim_id.ensures ∙ ap (λ n. entry (prim_id c.args.item) n ps is ds es)
+    c.in_ok-prim_name.ensures
     ∙ ap (λ ts. entry (prim_id c.args.item) c.args.name.now ts is ds es) c.new.ensures.items
     ∙ ap (λ ts. entry (prim_id c.args.item) c.args.name.now [] ts ds es) c.new-2.ensures.items
-    ∙ ap (λ xs. entry (prim_id c.args.item) c.args.name.now [] [] xs es) (sym (map-map (λ e. e.constructor) constructor_entry cs))
+    ∙ ap (λ xs. entry (prim_id c.args.item) c.args.name.now [] [] xs es)
+    (sym (map-map (λ e. e.constructor) constructor_entry cs))

@@ -5,7 +5,8 @@ use Rattle.qtt_term.specs.View.{terms, branches}
 use Rattle.qtt_term.proofs.shifting.+shifted.Given as goal
 
 abbrev pub invariant-shifted_all-loop-source : goal.invariant-shifted_all-loop-source
-invariant-shifted_all-loop-source l = terms l.moved.items ≡ map (ren (lifts_ren l.from (shift l.by))) (terms (take l.source-index l.sources))
+invariant-shifted_all-loop-source l =
+    terms l.moved.items ≡ map (ren (lifts_ren l.from (shift l.by))) (terms (take l.source-index l.sources))
 
 abbrev pub invariant-shifted_branches-loop-source : goal.invariant-shifted_branches-loop-source
 invariant-shifted_branches-loop-source l =

@@ -11,7 +11,8 @@ use Rattle.qtt_term.proofs.substitution.substituted_var.Goals as goal
 
 pub returns-then-index-depth : goal.returns-then-index-depth
 returns-then-index-depth c =
-    let here = sym (lifts-below c.args.depth (values_or c.args.beyond (terms c.args.values.now)) c.args.index c.if-index-depth.true) in
+    let here = sym (lifts-below c.args.depth (values_or c.args.beyond (terms c.args.values.now)) c.args.index
+    c.if-index-depth.true) in
     search (rules, the_lemmas, here)
 
 pub returns-then-place-values : goal.returns-then-place-values
@@ -22,7 +23,8 @@ returns-then-place-values c =
     let above = lifts-above d (values_or c.args.beyond (terms vs)) c.args.index c.if-index-depth.false in
     let P : Term → Type 0 = λ s. IfOk c.shift.result (λ t. term t ≡ s) in
     let at : values_or c.args.beyond (terms vs) (c.args.index - d) ≡ term value =
-    push-below (terms vs) (term_beyond c.args.beyond) (c.args.index - d) (term value) (omega (arith, length-map vs term))
+    push-below (terms vs) (term_beyond c.args.beyond) (c.args.index - d) (term value)
+    (omega (arith, length-map vs term))
     ∙ ap (λ n. get_or (terms vs) (n - 1 - (c.args.index - d)) (term value)) (length-map vs term)
     ∙ get_or-map term vs (length vs - 1 - (c.args.index - d)) value
     ∙ ap term (sym c.index-values-values.is) in
@@ -36,5 +38,6 @@ returns-else-place-values c =
     let above = lifts-above d (values_or c.args.beyond (terms vs)) i c.if-index-depth.false in
     let past = push-above (terms vs) (term_beyond c.args.beyond) (i - d) (omega (arith, length-map vs term)) in
     let place : d + (i - d - length (terms vs)) ≡ i - length vs = omega (arith, length-map vs term) in
-    let here = sym (above ∙ ap (ren (shift d)) past ∙ term_beyond-raised c.args.beyond d (i - d - length (terms vs)) ∙ ap (term_beyond c.args.beyond) place) in
+    let here = sym (above ∙ ap (ren (shift d)) past ∙ term_beyond-raised c.args.beyond d
+    (i - d - length (terms vs)) ∙ ap (term_beyond c.args.beyond) place) in
     search (rules, the_lemmas, here)

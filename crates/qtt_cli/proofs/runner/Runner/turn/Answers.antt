@@ -18,17 +18,22 @@ pub returns-in_err-put_line-in-None-clause-err : goal.returns-in_err-put_line-in
 returns-in_err-put_line-in-None-clause-err g c = λ ts now.
     let stands = rw c.in-Term.is at now in
     let first = put_stands ts c.in-Term.action c.args.self.now.waiting.items stands c.in-None.ensures.parts in
-    let same : c.unwrap.result.now ≡ first.0 = mapped_value (λ l. l.now) c.as_put_line.result c.unwrap.result first.0 c.unwrap.ensures (c.as_put_line.ensures.line first.0 first.3) in
+    let same : c.unwrap.result.now ≡ first.0 =
+    mapped_value (λ l. l.now) c.as_put_line.result c.unwrap.result first.0 c.unwrap.ensures
+    (c.as_put_line.ensures.line first.0 first.3) in
     let old = g.O.Sink.content c.args.out.now in
     let new = g.O.Sink.content c.put_line.new.out in
-    on_err_any c.from_residual.result (rw first.2 (front_more old new (line first.0) (bytes_of first.1) (subst (λ t. AddsFront old new (line t)) same c.in_err-put_line-in-None.ensures.err)))
+    on_err_any c.from_residual.result
+    (rw first.2 (front_more old new (line first.0) (bytes_of first.1)
+    (subst (λ t. AddsFront old new (line t)) same c.in_err-put_line-in-None.ensures.err)))
 
 pub returns-else-is_err-clause-ok : goal.returns-else-is_err-clause-ok
 returns-else-is_err-clause-ok g c = λ ts now.
     let stands = rw c.in-Term.is at now in
     let waiting = c.args.self.now.waiting.items in
     let pushed : c.push.new.self.items ≡ waiting ++ c.in-Some.next ∷ [] = grind (arith, common_steps) in
-    let next = bind_stands ts c.in-Term.action c.in-Some.first c.in-Some.next waiting stands (λ s e. cc (c.in-Some.ensures.other s e)) c.in-Some.ensures.parts in
+    let next = bind_stands ts c.in-Term.action c.in-Some.first c.in-Some.next waiting stands
+    (λ s e. cc (c.in-Some.ensures.other s e)) c.in-Some.ensures.parts in
     record {
       puts = [];
       rest = ts;
@@ -42,7 +47,9 @@ pub returns-in_ok-put_line-in-None-clause-ok : goal.returns-in_ok-put_line-in-No
 returns-in_ok-put_line-in-None-clause-ok g c = λ ts now.
     let stands = rw c.in-Term.is at now in
     let first = put_stands ts c.in-Term.action c.args.self.now.waiting.items stands c.in-None.ensures.parts in
-    let same : c.unwrap.result.now ≡ first.0 = mapped_value (λ l. l.now) c.as_put_line.result c.unwrap.result first.0 c.unwrap.ensures (c.as_put_line.ensures.line first.0 first.3) in
+    let same : c.unwrap.result.now ≡ first.0 =
+    mapped_value (λ l. l.now) c.as_put_line.result c.unwrap.result first.0 c.unwrap.ensures
+    (c.as_put_line.ensures.line first.0 first.3) in
     let old = g.O.Sink.content c.args.out.now in
     let new = g.O.Sink.content c.put_line.new.out in
     record {

@@ -1,4 +1,4 @@
-use Rattle.std.proofs.Common.{◌≡◌, Some, option_map, ap, ◌∙◌, sym}
+use Rattle.std.proofs.Common.{Some, option_map, ap, ◌∙◌, sym}
 use Rattle.std.proofs.lemmas.Result.{IfOk-weaker}
 use Rattle.qtt_term.specs.Globals.{env}
 use Rattle.qtt_term.specs.View.{term}
@@ -17,5 +17,6 @@ returns-in_ok-resumed-in-Some c =
 pub returns-in-None : goal.returns-in-None
 returns-in-None c =
     let E = env c.args.env.now in
-    let stays = focus-steps E (term c.args.self.focus) c.requires.focus ∙ sym c.in_ok-contracted.ensures ∙ ap (option_map term) c.in-None.is in
+    let stays = focus-steps E (term c.args.self.focus) c.requires.focus ∙ sym c.in_ok-contracted.ensures ∙
+    ap (option_map term) c.in-None.is in
     IfOk-weaker c.frame_step.result _ _ (λ s steps. steps E stays) c.frame_step.ensures

@@ -21,9 +21,17 @@ returns-clause-gives g c =
     let p = part c.args.sigma in
     let b = term c.args.body.now in
     reached
-    (unbound-fit p (tele c.args.binders.now) b c.args.uses _ (ap (fits_within p b) (sym (ap (λ r. r.0) c.fit_binders-fit.ensures)) ∙ sym c.fits_within.ensures ∙ search rules))
+    (unbound-fit p (tele c.args.binders.now) b c.args.uses _
+    (ap (fits_within p b) (sym (ap (λ r. r.0) c.fit_binders-fit.ensures)) ∙ sym c.fits_within.ensures ∙
+    search rules))
     (sym (ap (λ r. r.1) c.fit_binders-fit.ensures))
 
 pub returns-clause-len : goal.returns-clause-len
 returns-clause-len g c =
-    omega (arith, ap length (ap (λ r. r.1) c.fit_binders-fit.ensures), length-drop (length (tele c.args.binders.now)) c.args.uses, length-tele c.args.binders.now, c.requires)
+    omega (
+      arith,
+      ap length (ap (λ r. r.1) c.fit_binders-fit.ensures),
+      length-drop (length (tele c.args.binders.now)) c.args.uses,
+      length-tele c.args.binders.now,
+      c.requires,
+    )

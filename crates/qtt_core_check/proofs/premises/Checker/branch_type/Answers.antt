@@ -15,5 +15,7 @@ returns g c = λ d e.
     let i : x ≡ get_or F.constructors.items c.args.place x = search rules in
     let k : c.len.result ≡ length F.params.items = search rules in
     let n : c.in_ok-number.field-0 ≡ c.args.place = search rules in
-    let t : term c.in_ok-branch_type.field-0 ≡ branch_type (params_of m) (con_sig m.id c.len.result c.in_ok-number.field-0 (constructor x)) (motive_of m) = search rules in
-    t ∙ ap (λ d. branch_type (params_of m) d (motive_of m)) (sig-at m.id F c.len.result c.in_ok-number.field-0 c.args.place x d c.requires i k n e)
+    let t : term c.in_ok-branch_type.field-0 ≡ branch_type (params_of m)
+    (con_sig m.id c.len.result c.in_ok-number.field-0 (constructor x)) (motive_of m) = search rules in
+    t ∙ ap (λ d. branch_type (params_of m) d (motive_of m))
+    (sig-at m.id F c.len.result c.in_ok-number.field-0 c.args.place x d c.requires i k n e)

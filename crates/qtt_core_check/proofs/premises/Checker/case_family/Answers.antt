@@ -28,7 +28,8 @@ returns-then-not-shaped-clause-gives g c =
     let u : usable (part c.args.sigma) c.args.mult ≡ true = search rules in
     let ns = map (λ b. b.0) (branches c.args.branches.now) in
     let s : shaped (fam_at (env c.args.self.now.globals.now) c.args.id) c.args.params (c.args.indices + 1) ns ≡ false =
-    ap (λ S. shaped S c.args.params (c.args.indices + 1) ns) (found-family (env c.args.self.now.globals.now) c.args.id (family c.in-Some.family.now) e)
+    ap (λ S. shaped S c.args.params (c.args.indices + 1) ns)
+    (found-family (env c.args.self.now.globals.now) c.args.id (family c.in-Some.family.now) e)
     ∙ shape-seen c.args.id c.in-Some.family.now c.args.params c.args.indices ns ∙ sym c.shaped.ensures ∙ search rules in
     unmet _ _ (rw (s, u, e) refl)
 
@@ -38,7 +39,8 @@ returns-clause-gives g c =
     let u : usable (part c.args.sigma) c.args.mult ≡ true = search rules in
     let ns = map (λ b. b.0) (branches c.args.branches.now) in
     let s : shaped (fam_at (env c.args.self.now.globals.now) c.args.id) c.args.params (c.args.indices + 1) ns ≡ true =
-    ap (λ S. shaped S c.args.params (c.args.indices + 1) ns) (found-family (env c.args.self.now.globals.now) c.args.id (family c.in-Some.family.now) e)
+    ap (λ S. shaped S c.args.params (c.args.indices + 1) ns)
+    (found-family (env c.args.self.now.globals.now) c.args.id (family c.in-Some.family.now) e)
     ∙ shape-seen c.args.id c.in-Some.family.now c.args.params c.args.indices ns ∙ sym c.shaped.ensures ∙ search rules in
     holds _ _ (rw (s, u, e) refl)
 

@@ -20,8 +20,10 @@ returns-in_default-clause-gives g c =
 
 pub returns-then-not-usable-clause-gives : goal.returns-then-not-usable-clause-gives
 returns-then-not-usable-clause-gives g c =
-    let e : (env c.args.self.now.globals.now).definition c.args.id ≡ Some (definition c.in-Some.definition.now) = search rules in
-    def-unusable (env c.args.self.now.globals.now) (part c.args.sigma) (ctx c.args.scope.now) c.args.id (definition c.in-Some.definition.now) e (search rules)
+    let e : (env c.args.self.now.globals.now).definition c.args.id ≡ Some (definition c.in-Some.definition.now) =
+    search rules in
+    def-unusable (env c.args.self.now.globals.now) (part c.args.sigma) (ctx c.args.scope.now) c.args.id
+    (definition c.in-Some.definition.now) e (search rules)
 
 pub returns-clause-gives : goal.returns-clause-gives
 returns-clause-gives g c =
@@ -29,6 +31,7 @@ returns-clause-gives g c =
     let e : (env c.args.self.now.globals.now).definition c.args.id ≡ Some D = search rules in
     let t : term c.in_ok-ty.ty ≡ sub closed D.type = search rules in
     finished _ judged c.plain_row.result
-    (reached (def-found (env c.args.self.now.globals.now) (part c.args.sigma) (ctx c.args.scope.now) c.args.id D e (search rules))
+    (reached (def-found (env c.args.self.now.globals.now) (part c.args.sigma) (ctx c.args.scope.now) c.args.id D e
+    (search rules))
     (ap (λ A. inferred A (no_usage (length (ctx c.args.scope.now)))) (sym t)))
     c.plain_row.ensures.gives

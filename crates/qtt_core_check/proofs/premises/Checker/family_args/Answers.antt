@@ -26,12 +26,15 @@ pub returns-then-len-count-clause-gives : goal.returns-then-len-count-clause-giv
 returns-then-len-count-clause-gives g c =
     let f = c.in-Done-Fam-default in
     let ts = f.args.items in
-    let e : question.head (env c.args.self.now.globals.now) c.args.self.now.budget (term c.args.ty.now) ≡ question.Head.done (term f.field-0) f.field-1 = search rules in
-    let d : term f.field-0 ≡ Fam f.found (side_by_side (terms ts)) = ap term f.field-0-is ∙ search (rules, the_lemmas) in
+    let e : question.head (env c.args.self.now.globals.now) c.args.self.now.budget
+    (term c.args.ty.now) ≡ question.Head.done (term f.field-0) f.field-1 = search rules in
+    let d : term f.field-0 ≡ Fam f.found (side_by_side (terms ts)) =
+    ap term f.field-0-is ∙ search (rules, the_lemmas) in
     let s : same_id c.args.id f.found ≡ true = search rules in
     let l : length ts ≡ c.args.count = search rules in
     reached
-    (head-family (ctx c.args.scope.now) c.args.id f.found c.args.count (term c.args.ty.now) (term f.field-0) f.field-1 (side_by_side (terms ts)) (at c.args.premise.0 c.args.premise.1) e d s
+    (head-family (ctx c.args.scope.now) c.args.id f.found c.args.count (term c.args.ty.now)
+    (term f.field-0) f.field-1 (side_by_side (terms ts)) (at c.args.premise.0 c.args.premise.1) e d s
     (size-side (terms ts) ∙ length-map ts term ∙ l))
     (search rules)
 
@@ -39,13 +42,17 @@ pub returns-in-Done-Fam-default-clause-gives : goal.returns-in-Done-Fam-default-
 returns-in-Done-Fam-default-clause-gives g c =
     let f = c.in-Done-Fam-default in
     let ts = f.args.items in
-    let e : question.head (env c.args.self.now.globals.now) c.args.self.now.budget (term c.args.ty.now) ≡ question.Head.done (term f.field-0) f.field-1 = search rules in
-    let d : term f.field-0 ≡ Fam f.found (side_by_side (terms ts)) = ap term f.field-0-is ∙ search (rules, the_lemmas) in
+    let e : question.head (env c.args.self.now.globals.now) c.args.self.now.budget
+    (term c.args.ty.now) ≡ question.Head.done (term f.field-0) f.field-1 = search rules in
+    let d : term f.field-0 ≡ Fam f.found (side_by_side (terms ts)) =
+    ap term f.field-0-is ∙ search (rules, the_lemmas) in
     let z : size (side_by_side (terms ts)) ≡ length ts = size-side (terms ts) ∙ length-map ts term in
     let s : (same_id c.args.id f.found && eqb (length ts) c.args.count) ≡ false =
     elim c.else-same_id.branch [
-      | else-same_id-via-then-same_id+else-len-count w ↦ let n : length ts ≢ c.args.count = search rules in no-second _ _ (ne_eqb (length ts) c.args.count n)
+      | else-same_id-via-then-same_id+else-len-count w ↦ let n : length ts ≢ c.args.count =
+          search rules in no-second _ _ (ne_eqb (length ts) c.args.count n)
       | else-same_id-via-else-same_id w ↦ let n : same_id c.args.id f.found ≡ false = search rules in no-first _ _ n
     ] in
-    other-family (ctx c.args.scope.now) c.args.id f.found c.args.count (term c.args.ty.now) (term f.field-0) f.field-1 (side_by_side (terms ts)) (at c.args.premise.0 c.args.premise.1) e d
+    other-family (ctx c.args.scope.now) c.args.id f.found c.args.count (term c.args.ty.now)
+    (term f.field-0) f.field-1 (side_by_side (terms ts)) (at c.args.premise.0 c.args.premise.1) e d
     (ap (λ n. same_id c.args.id f.found && eqb n c.args.count) z ∙ s)

@@ -36,11 +36,14 @@ pub returns-clause-arguments : goal.returns-clause-arguments
 returns-clause-arguments g c =
     let F = family c.in-Some.family.now in
     let e : (env c.args.self.now.globals.now).family c.args.id ≡ Some F = search rules in
-    let s : tele c.in_ok-arguments.arguments.items ≡ erase_binds (F.params ++ index_binders 0 F.indices) = search rules in
-    s ∙ ap (λ S. erase_binds (S.params ++ S.indices)) (sym (found-family (env c.args.self.now.globals.now) c.args.id F e))
+    let s : tele c.in_ok-arguments.arguments.items ≡ erase_binds (F.params ++ index_binders 0 F.indices) =
+    search rules in
+    s ∙ ap (λ S. erase_binds (S.params ++ S.indices))
+    (sym (found-family (env c.args.self.now.globals.now) c.args.id F e))
 
 pub returns-clause-ty : goal.returns-clause-ty
 returns-clause-ty g c =
     let F = family c.in-Some.family.now in
     let e : (env c.args.self.now.globals.now).family c.args.id ≡ Some F = search rules in
-    sort-seen c.in-Some.family.now.level ∙ ap (λ S. Sort S.level) (sym (found-family (env c.args.self.now.globals.now) c.args.id F e))
+    sort-seen c.in-Some.family.now.level ∙ ap (λ S. Sort S.level)
+    (sym (found-family (env c.args.self.now.globals.now) c.args.id F e))

@@ -17,5 +17,6 @@ returns g c =
     let f : term c.in_ok-subst.field-0 ≡ sub (values_in (terms vs)) P = search rules in
     let e : vs ≡ is ++ c.in_ok-copy.field-0 ∷ [] = search rules in
     let t : term c.in_ok-copy.field-0 ≡ s = search rules in
-    f ∙ ap (λ ts. sub (values_in ts) P) (ap terms e ∙ map-append term is (c.in_ok-copy.field-0 ∷ []) ∙ ap (λ t. terms is ++ t ∷ []) t)
+    f ∙ ap (λ ts. sub (values_in ts) P)
+    (ap terms e ∙ map-append term is (c.in_ok-copy.field-0 ∷ []) ∙ ap (λ t. terms is ++ t ∷ []) t)
     ∙ ap (λ ts. sub (push ts var) P) (side-joined (terms is) (s ∷ []))

@@ -20,4 +20,5 @@ returns g c =
     let j : vs ≡ ps ++ is = search rules in
     let a : terms ps ≡ terms m.params.now = search rules in
     let b : terms is ≡ terms c.args.indices.now = search rules in
-    f ∙ ap₂ sub (filled-more m.params.now vs c.args.indices.now (ap terms j ∙ map-append term ps is ∙ ap₂ (λ a b. a ++ b) a b)) s
+    f ∙ ap₂ sub (filled-more m.params.now vs c.args.indices.now
+    (ap terms j ∙ map-append term ps is ∙ ap₂ (λ a b. a ++ b) a b)) s

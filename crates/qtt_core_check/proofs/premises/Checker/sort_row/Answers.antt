@@ -15,4 +15,6 @@ pub returns-clause-gives : goal.returns-clause-gives
 returns-clause-gives g c =
     let h : c.args.level < 4294967295 = omega arith in
     let s : suc c.args.level ≡ c.args.level + 1 = omega arith in
-    reached (on _ (holds _ _ (lt-ltb c.args.level 4294967295 h)) on_done) (ap₂ inferred (ap Sort s ∙ sym (sort-seen (c.args.level + 1))) (ap no_usage (sym c.in_ok-depth.ensures) ∙ sym c.in_ok-zero.ensures.uses))
+    reached (on _ (holds _ _ (lt-ltb c.args.level 4294967295 h)) on_done)
+    (ap₂ inferred (ap Sort s ∙ sym (sort-seen (c.args.level + 1)))
+    (ap no_usage (sym c.in_ok-depth.ensures) ∙ sym c.in_ok-zero.ensures.uses))

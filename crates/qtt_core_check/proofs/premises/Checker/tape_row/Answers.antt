@@ -8,4 +8,5 @@ use Rattle.qtt_core_check.proofs.premises.Checker.tape_row.Goals as goal
 
 pub returns-clause-gives : goal.returns-clause-gives
 returns-clause-gives g c =
-    reached on_done (ap₂ inferred (sym handle-seen) (ap no_usage (sym c.in_ok-depth.ensures) ∙ sym c.in_ok-zero.ensures.uses))
+    reached on_done (ap₂ inferred (sym handle-seen)
+    (ap no_usage (sym c.in_ok-depth.ensures) ∙ sym c.in_ok-zero.ensures.uses))

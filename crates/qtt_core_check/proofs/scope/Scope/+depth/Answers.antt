@@ -5,4 +5,5 @@ use Rattle.qtt_core_check.proofs.Scopes.{several-depth}
 use Rattle.qtt_core_check.proofs.scope.Scope.+depth.Goals as goal
 
 pub returns-in_ok-depth-in-Several : goal.returns-in_ok-depth-in-Several
-returns-in_ok-depth-in-Several t c = let e = several-depth (ctx c.in-Several.outer.now) c.in-Several.binders.now in grind (arith, common_steps, e)
+returns-in_ok-depth-in-Several t c = let e =
+    several-depth (ctx c.in-Several.outer.now) c.in-Several.binders.now in grind (arith, common_steps, e)

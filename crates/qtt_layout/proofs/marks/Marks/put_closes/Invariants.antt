@@ -6,4 +6,5 @@ use Rattle.qtt_layout.proofs.marks.Marks.put_closes.Given as goal
 
 abbrev pub invariant-closes : goal.invariant-closes
 invariant-closes l =
-    (rest : List Laid) → written l.self (replicate (l.count - l.counter) (Close l.span) ++ rest) ≡ written l.fn.self (replicate l.count (Close l.span) ++ rest)
+    (rest : List Laid) → written l.self (replicate (l.count - l.counter) (Close l.span) ++ rest) ≡ written
+    l.fn.self (replicate l.count (Close l.span) ++ rest)

@@ -6,4 +6,5 @@ use Rattle.qtt_lower.proofs.bases.Bases.first.Given as goal
 
 abbrev pub invariant-loop-owner : goal.invariant-loop-owner
 invariant-loop-owner l =
-    with_id base_id l.id (base_list (drop l.owner-index l.self.firsts.items)) ≡ with_id base_id l.id (base_list l.self.firsts.items)
+    with_id base_id l.id (base_list (drop l.owner-index l.self.firsts.items)) ≡ with_id base_id l.id
+    (base_list l.self.firsts.items)

@@ -6,4 +6,5 @@ use Rattle.qtt_names.proofs.scope.Scope.imported.Given as goal
 
 abbrev pub invariant-loop-import : goal.invariant-loop-import
 invariant-loop-import l =
-    l.found ≡ one_of (filter_map (exported (option_copied l.of) l.name) (map imported_of (take l.import-index l.import-items)))
+    l.found ≡ one_of (filter_map (exported (option_copied l.of) l.name)
+    (map imported_of (take l.import-index l.import-items)))

@@ -8,18 +8,22 @@ use Rattle.qtt_names.proofs.target.Resolver.+filled.Given as goal
 
 abbrev pub invariant-arguments-loop-argument : goal.invariant-arguments-loop-argument
 invariant-arguments-loop-argument l = record {
-  so_far : in_turn (filled_argument (names_of l.self)) unmoved l.initial.locals.items (map argument_of (take l.argument-index l.source)) ≡ Ok (map argument_of l.done.items);
+  so_far : in_turn (filled_argument (names_of l.self)) unmoved l.initial.locals.items
+      (map argument_of (take l.argument-index l.source)) ≡ Ok (map argument_of l.done.items);
   behind : l.locals.items ≡ l.initial.locals.items;
 }
 
 abbrev pub invariant-binders-loop-binder : goal.invariant-binders-loop-binder
 invariant-binders-loop-binder l = record {
-  so_far : in_turn (filled_binder (names_of l.self)) behind_binder l.initial.locals.items (map binder_of (take l.binder-index l.source)) ≡ Ok (map binder_of l.done.items);
+  so_far : in_turn (filled_binder (names_of l.self)) behind_binder l.initial.locals.items
+      (map binder_of (take l.binder-index l.source)) ≡ Ok (map binder_of l.done.items);
   behind : l.locals.items ≡ fold behind_binder l.initial.locals.items (map binder_of (take l.binder-index l.source));
 }
 
 abbrev pub invariant-statements-loop-statement : goal.invariant-statements-loop-statement
 invariant-statements-loop-statement l = record {
-  so_far : in_turn (filled_statement (names_of l.self)) behind_statement l.initial.locals.items (map statement_of (take l.statement-index l.source)) ≡ Ok (map statement_of l.done.items);
-  behind : l.locals.items ≡ fold behind_statement l.initial.locals.items (map statement_of (take l.statement-index l.source));
+  so_far : in_turn (filled_statement (names_of l.self)) behind_statement l.initial.locals.items
+      (map statement_of (take l.statement-index l.source)) ≡ Ok (map statement_of l.done.items);
+  behind : l.locals.items ≡ fold behind_statement l.initial.locals.items
+      (map statement_of (take l.statement-index l.source));
 }

@@ -8,7 +8,8 @@ use Rattle.qtt_names.proofs.target.Resolver.+patterns.Given as goal
 
 abbrev pub invariant-patterns-loop-pattern : goal.invariant-patterns-loop-pattern
 invariant-patterns-loop-pattern l = record {
-  so_far : in_turn (filled_shape (names_of l.self) l.initial.variables.items) behind_shape l.initial.before.keys (map shape_of (take l.pattern-index l.source)) ≡ Ok (map shape_of l.done.items);
+  so_far : in_turn (filled_shape (names_of l.self) l.initial.variables.items) behind_shape l.initial.before.keys
+      (map shape_of (take l.pattern-index l.source)) ≡ Ok (map shape_of l.done.items);
   kept : l.variables.items ≡ l.initial.variables.items;
   behind : l.before.keys ≡ fold behind_shape l.initial.before.keys (map shape_of (take l.pattern-index l.source));
 }

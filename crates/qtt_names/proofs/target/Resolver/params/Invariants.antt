@@ -7,6 +7,7 @@ use Rattle.qtt_names.proofs.target.Resolver.params.Given as goal
 
 abbrev pub invariant-loop-param : goal.invariant-loop-param
 invariant-loop-param l = record {
-  so_far : filled_params (names_of l.self) l.initial.locals.items (map param_of (take l.param-index l.source)) ≡ Ok (map param_of l.done.items);
+  so_far : filled_params (names_of l.self) l.initial.locals.items (map param_of (take l.param-index l.source)) ≡
+      Ok (map param_of l.done.items);
   behind : l.locals.items ≡ fold behind_param l.initial.locals.items (map param_of (take l.param-index l.source));
 }

@@ -8,7 +8,8 @@ use Rattle.qtt_run.proofs.handles.Handles.close.Goals as goal
 
 pub close-requires : goal.close-requires
 close-requires g c =
-    outside-open c.args.self.now (g.T.Tapes.tapes c.args.tapes.now) c.args.place c.index_mut-handle.result.now c.requires
+    outside-open c.args.self.now (g.T.Tapes.tapes c.args.tapes.now) c.args.place c.index_mut-handle.result.now
+    c.requires
     c.index_mut-handle.ensures.value
 
 pub returns-in_err-close-clause-err : goal.returns-in_err-close-clause-err
@@ -17,7 +18,8 @@ returns-in_err-close-clause-err g c =
     let handle = c.index_mut-handle.result.now in
     on-err c.from_residual.result
     (keeps-place (told c.args.tapes.now) (told c.close.new.self) handle.number c.args.place
-    (number-open c.args.self.now (told c.args.tapes.now) c.args.place handle c.requires c.index_mut-handle.ensures.value)
+    (number-open c.args.self.now (told c.args.tapes.now) c.args.place handle c.requires
+    c.index_mut-handle.ensures.value)
     c.in_err-close.ensures.err)
 
 pub returns-clause-ok : goal.returns-clause-ok
@@ -25,7 +27,8 @@ returns-clause-ok g c =
     let told = g.T.Tapes.tapes in
     let handle = c.index_mut-handle.result.now in
     changes-place (told c.args.tapes.now) (told c.close.new.self) shut handle.number c.args.place
-    (number-open c.args.self.now (told c.args.tapes.now) c.args.place handle c.requires c.index_mut-handle.ensures.value)
+    (number-open c.args.self.now (told c.args.tapes.now) c.args.place handle c.requires
+    c.index_mut-handle.ensures.value)
     c.in_ok-close.ensures.ok
 
 pub returns-clause-mirrors : goal.returns-clause-mirrors
@@ -35,4 +38,5 @@ returns-clause-mirrors g c = λ ts mirrors.
     let within = place-within c.args.self.now (told c.args.tapes.now) c.args.place c.requires in
     mirrors-closed c.args.self.now _ (told c.args.tapes.now) (told c.close.new.self) ts c.args.place
     (record { number = handle.number; is_open = false }) mirrors (returns-clause-ok g c) refl refl
-    (ap number_of (c.index_mut-handle.ensures.value ∙ get_or_default c.args.self.now.all.items c.args.place handle _ within))
+    (ap number_of (c.index_mut-handle.ensures.value ∙ get_or_default c.args.self.now.all.items c.args.place handle
+    _ within))

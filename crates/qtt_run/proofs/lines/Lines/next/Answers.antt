@@ -11,7 +11,8 @@ returns-in-Line-clause-finds g c = λ rest left.
 
 pub returns-in-Line-clause-more : goal.returns-in-Line-clause-more
 returns-in-Line-clause-more g c = λ _.
-    has-input (record { cutter = c.next_line.new.self; at_end = c.args.self.now.at_end }) (g.S.Source.content c.next_line.new.source)
+    has-input (record { cutter = c.next_line.new.self; at_end = c.args.self.now.at_end })
+    (g.S.Source.content c.next_line.new.source)
     c.if-self.false
 
 pub returns-in-TooLong-clause-finds : goal.returns-in-TooLong-clause-finds

@@ -11,4 +11,8 @@ returns-clause-turns c = λ o m n i u t a.
     let m = c.args.self.now in
     let pushed : c.push.new.self.items ≡ m.waiting.items ++ c.args.rest ∷ [] = grind (arith, common_steps) in
     c.spend.ensures.turns o i u t
-    (record { next = λ more z. bind-ahead o i u t m c.args.first c.args.rest a c.push.new.self.items pushed more z; program = a.stands })
+    (record {
+      next = λ more z. bind-ahead o i u t m c.args.first c.args.rest a c.push.new.self.items pushed more
+          z;
+      program = a.stands;
+    })

@@ -18,4 +18,5 @@ returns-clause-halts c = λ o i u t a.
     let b : Advanced m.machine m.left h x = c.in_ok-halt.ensures in
     let n : x.used ≡ m.machine.used + b.made = b.used in
     let w : b.made ≤ m.left = advance-within m x h b in
-    after-advance m x (m.left - (c.used.result - c.used-before.result)) h a b (omega (arith, n, w, c.used.ensures, c.used-before.ensures))
+    after-advance m x (m.left - (c.used.result - c.used-before.result)) h a b
+    (omega (arith, n, w, c.used.ensures, c.used-before.ensures))

@@ -4,7 +4,8 @@ use Rattle.qtt_code.specs.Forward.{AllJumpForward}
 use Rattle.qtt_code.specs.Machine.{called}
 use Rattle.qtt_value.specs.View.{value}
 use Rattle.qtt_machine.specs.Runs.{Answers}
-use Rattle.qtt_run.proofs.Stepping.{give-failed, underway-broken, given-ends, given-bound, given-acts, given-answers}
+use Rattle.qtt_run.specs.Stop.{memory_failure}
+use Rattle.qtt_run.proofs.Stepping.{turn-failed, underway-broken, given-ends, given-bound, given-acts, given-answers}
 use Rattle.qtt_run.proofs.running.Running.give.Goals as goal
 
 pub returns-in_default-clause-turns : goal.returns-in_default-clause-turns
@@ -28,7 +29,8 @@ call-requires-clause-answers c =
 
 pub returns-in_err-call-clause-turns : goal.returns-in_err-call-clause-turns
 returns-in_err-call-clause-turns c = λ o m i u t a.
-    give-failed o _ i u t c.from_residual.result c.from_residual.ensures.0 (underway-broken c.args.self.now a)
+    turn-failed memory_failure o _ _ i u t c.from_residual.result c.from_residual.ensures.1
+    (underway-broken c.args.self.now a)
 
 pub returns-clause-turns : goal.returns-clause-turns
 returns-clause-turns c = λ o m i u t a.
@@ -37,7 +39,8 @@ returns-clause-turns c = λ o m i u t a.
     let b = c.in_ok-call.ensures in (
       called (value c.in-Some.rest) (value c.args.res),
       record {
-        run = given-acts o i u t n a c.pop.new.self.items c.in-Some.rest c.in-Some.ensures.items (n.left - 1) (omega (arith, l));
+        run = given-acts o i u t n a c.pop.new.self.items c.in-Some.rest c.in-Some.ensures.items (n.left - 1)
+            (omega (arith, l));
         stands = (b.same_program ∙ a.stands, b.at, b.ready);
       },
     )

@@ -1,4 +1,5 @@
 use Rattle.qtt_value.specs.View.{value}
+use Rattle.qtt_run.specs.Stop.{failure}
 use Rattle.qtt_run.proofs.Asked.{at-value, is-performed, effect-bound}
 use Rattle.qtt_run.proofs.Stepping.{turn-failed}
 use Rattle.qtt_run.proofs.running.Running.perform.Goals as goal
@@ -15,7 +16,7 @@ give-requires g c =
 pub returns-in_err-give-in-Give-clause-turns : goal.returns-in_err-give-in-Give-clause-turns
 returns-in_err-give-in-Give-clause-turns g c = λ o a.
     let (m, e) = c.in-Give.ensures in
-    turn-failed o _ _ _ _ c.from_residual.result c.from_residual.ensures.0
+    turn-failed failure o _ _ _ _ _ c.from_residual.result c.from_residual.ensures.1
     (c.in_err-give-in-Give.ensures.turns o m _ _ _ (at-value c.args.self.now e a))
 
 pub returns-in_ok-give-in-Give-clause-turns : goal.returns-in_ok-give-in-Give-clause-turns
@@ -27,7 +28,8 @@ pub get_line-requires : goal.get_line-requires
 get_line-requires g c = let (o, a) = c.requires in (o, _, at-value c.args.self.now c.in-GetLine.ensures a)
 
 pub returns-in-GetLine-clause-turns : goal.returns-in-GetLine-clause-turns
-returns-in-GetLine-clause-turns g c = λ o a. c.get_line.ensures.turns o _ (at-value c.args.self.now c.in-GetLine.ensures a)
+returns-in-GetLine-clause-turns g c =
+    λ o a. c.get_line.ensures.turns o _ (at-value c.args.self.now c.in-GetLine.ensures a)
 
 pub returns-in-Else-clause-turns : goal.returns-in-Else-clause-turns
 returns-in-Else-clause-turns g c = λ o a.

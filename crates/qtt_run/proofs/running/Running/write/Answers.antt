@@ -1,5 +1,6 @@
+use Rattle.qtt_run.specs.Stop.{tape_failure}
 use Rattle.qtt_run.proofs.Effects.{write-open}
-use Rattle.qtt_run.proofs.Stepping.{turn-failed, underway-broken, write-ahead, tape-broken}
+use Rattle.qtt_run.proofs.Stepping.{turn-failed, underway-broken, write-ahead, write-broken}
 use Rattle.qtt_run.proofs.Valued.{gives-handle}
 use Rattle.qtt_run.proofs.running.Running.write.Goals as goal
 
@@ -8,13 +9,14 @@ write-requires g c = write-open c.requires.at.3.run
 
 pub returns-in_err-handle-clause-turns : goal.returns-in_err-handle-clause-turns
 returns-in_err-handle-clause-turns g c = λ o i u a.
-    turn-failed o _ i u (g.T.Tapes.tapes c.args.tapes.now) c.from_residual.result c.from_residual.ensures.0 (underway-broken c.args.self.now a)
+    turn-failed tape_failure o _ _ i u (g.T.Tapes.tapes c.args.tapes.now) c.from_residual.result
+    c.from_residual.ensures.1 (underway-broken c.args.self.now a)
 
 pub returns-in_err-write-clause-turns : goal.returns-in_err-write-clause-turns
 returns-in_err-write-clause-turns g c = λ o i u a.
     let t = g.T.Tapes.tapes c.write.new.tapes in
-    turn-failed o _ i u t c.from_residual-in_err-write.result c.from_residual-in_err-write.ensures.0
-    (tape-broken c.args.self.now a c.args.place t c.in_err-write.ensures.err)
+    turn-failed tape_failure o _ _ i u t c.from_residual-in_err-write.result c.from_residual-in_err-write.ensures.1
+    (write-broken c.args.self.now c.requires.left _ t a c.in_err-write.ensures.err)
 
 pub returns-clause-turns : goal.returns-clause-turns
 returns-clause-turns g c = λ o i u a.

@@ -5,4 +5,5 @@ use Rattle.qtt_syntax.specs.Printing.{items}
 use Rattle.qtt_syntax.proofs.printer.items.put_items.Given as goal
 
 abbrev pub invariant-loop-item : goal.invariant-loop-item
-invariant-loop-item l = l.out.items ++ written (items (map item_of (drop l.item-index l.list))) ≡ l.fn.out.items ++ written (items (map item_of l.list))
+invariant-loop-item l = l.out.items ++ written (items (map item_of (drop l.item-index l.list))) ≡ l.fn.out.items
+    ++ written (items (map item_of l.list))

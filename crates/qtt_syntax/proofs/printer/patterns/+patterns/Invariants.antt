@@ -7,4 +7,5 @@ use Rattle.qtt_syntax.proofs.printer.patterns.+patterns.Given as goal
 
 abbrev pub invariant-put_patterns-loop-shape : goal.invariant-put_patterns-loop-shape
 invariant-put_patterns-loop-shape l =
-    l.out.items ++ written (patterns (shapes (map shape_of (drop l.shape-index l.list)))) ≡ l.fn.out.items ++ written (patterns (shapes (map shape_of l.list)))
+    l.out.items ++ written (patterns (shapes (map shape_of (drop l.shape-index l.list)))) ≡ l.fn.out.items ++
+    written (patterns (shapes (map shape_of l.list)))

@@ -12,7 +12,8 @@ use Rattle.qtt_term.proofs.Constructors.{family_there, place_there}
 use Rattle.qtt_term.proofs.globals.Globals.constructor.Goals as goal
 
 -- the place that was found is the constructor's
-place_is : (g : Globals) (id : GlobalId) (p : Place) → Some p ≡ with_id place_id id g.places.items → constructor_of (families g) id ≡ Some p.con
+place_is : (g : Globals) (id : GlobalId) (p : Place) → Some p ≡ with_id place_id id g.places.items →
+    constructor_of (families g) id ≡ Some p.con
 place_is g id p e = sym (g.places_are id) ∙ ap (option_map (λ x. x.con)) (sym e)
 
 pub unreachable-requires : goal.unreachable-requires
@@ -36,7 +37,9 @@ returns-clause-family c =
     let g = c.args.self.now in
     let f = c.in-Some.place.now.con.family in
     let F = family_entry c.in-Some-family.family.now in
-    ap (λ i. with_id family_id i (families g)) (has_id family_id f (families g) F (sym c.in-Some-family.ensures.found)) ∙ sym c.in-Some-family.ensures.found
+    ap (λ i. with_id family_id i (families g))
+    (has_id family_id f (families g) F (sym c.in-Some-family.ensures.found)) ∙
+    sym c.in-Some-family.ensures.found
 
 pub returns-clause-place : goal.returns-clause-place
 returns-clause-place c =
@@ -45,4 +48,5 @@ returns-clause-place c =
     let con = place_is g c.args.id p (c.in-Some.ensures ∙ ap (with_id place_id c.args.id) c.deref.ensures.value) in
     let F = c.in-Some-family.family.now in
     sym (ap (λ is. slice_get is p.con.place) (map-map constructor_id constructor_entry F.constructors.items))
-    ∙ place_there (families g) c.args.id p.con (family_entry F) g.families_ascend con (sym c.in-Some-family.ensures.found)
+    ∙ place_there (families g) c.args.id p.con (family_entry F) g.families_ascend con
+    (sym c.in-Some-family.ensures.found)

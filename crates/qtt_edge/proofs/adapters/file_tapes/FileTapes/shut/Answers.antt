@@ -11,9 +11,12 @@ returns-then-not-close-clause-err g c =
 
 pub returns-clause-open : goal.returns-clause-open
 returns-clause-open g c = (
-  λ _. open_flags-at c.args.self.now.tapes.items c.args.number c.index_mut.result.now true (omega (arith, c.args.self.now.tapes.ok.0)) c.index_mut.ensures.value (sym c.close.ensures.was ∙ c.if-not-close.false),
+  λ _. open_flags-at c.args.self.now.tapes.items c.args.number c.index_mut.result.now true
+      (omega (arith, c.args.self.now.tapes.ok.0)) c.index_mut.ensures.value
+      (sym c.close.ensures.was ∙ c.if-not-close.false),
   λ _. refl,
 )
 
 pub returns-clause-ok : goal.returns-clause-ok
-returns-clause-ok g c = open_flags-set c.args.self.now.tapes.items c.args.number c.close.new.self false c.close.ensures.closed
+returns-clause-ok g c = open_flags-set c.args.self.now.tapes.items c.args.number c.close.new.self false
+    c.close.ensures.closed

@@ -1,5 +1,0 @@
-use Rattle.qtt_grammar.proofs.Again.{words_read_again}
-use Rattle.qtt_grammar.proofs.laws.printed_words_are_read_again.Goals as goal
-
-pub returns : goal.returns
-returns c = words_read_again

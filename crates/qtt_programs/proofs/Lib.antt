@@ -1,0 +1,5 @@
+pub mod Judging
+pub mod Runnable
+pub mod Worked
+pub mod Growing
+pub mod Refused

@@ -1,0 +1,4 @@
+pub mod Closed
+pub mod Programs
+pub mod Worked
+pub mod Refused

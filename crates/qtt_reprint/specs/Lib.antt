@@ -1,0 +1,3 @@
+pub mod Sketch
+pub mod Spelled
+pub mod Unplaced

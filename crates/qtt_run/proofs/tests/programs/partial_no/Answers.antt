@@ -1,8 +1,0 @@
-use Rattle.qtt_term.specs.Globals.{env}
-use Rattle.qtt_run.proofs.Building.{if_ok-then, two-listed}
-use Rattle.qtt_run.proofs.tests.programs.partial_no.Goals as goal
-
-pub returns : goal.returns
-returns c =
-    if_ok-then c.plain.result c.plain.ensures
-    (λ g h. two-listed _ (env g) _ _ _ _ _ h c.in_ok-vec.ensures.items c.in_ok-main.ensures c.in_ok-no.ensures)

@@ -1,0 +1,5 @@
+//! Tests of the public calls of `qtt_syntax`.
+#![tactic(auto)]
+
+#[cfg(test)]
+mod printer;
