@@ -1,7 +1,7 @@
 //! Each public call once.
 
 use qtt_base::{GlobalId, ModuleId, Name};
-use qtt_term::{Globals, Term};
+use qtt_term::{Ctx, Globals, Term};
 use qtt_usage::mult::Mult;
 use std::test::Fail;
 
@@ -78,5 +78,27 @@ fn constructors_are_found(rt: HostRuntime) -> Result<(), Fail> {
     }
     let nothing = globals.part(alloc, ModuleId(1))?;
     globals.adopt(alloc, &nothing)?;
+    Ok(())
+}
+
+#[test]
+fn conditions_have_their_tests(rt: HostRuntime) -> Result<(), Fail> {
+    let alloc = rt.alloc();
+    let globals = Globals::prim(alloc)?;
+    let id = GlobalId {
+        module: ModuleId(1),
+        item: 0,
+    };
+    let function = Term::lam(alloc, Mult::Many, Term::IntTy, Term::Var(0))?;
+    let context = Ctx {
+        vars: vec![in alloc; (Mult::Many, Term::IntTy)]?,
+        names: Vec::new(alloc),
+    };
+    assert!(rt; globals.is_absent(id));
+    assert!(rt; !globals.is_open(id));
+    assert!(rt; function.is_closed());
+    assert!(rt; !Term::Var(0).is_closed());
+    assert!(rt; function.is_in_shape(&globals));
+    assert!(rt; context.is_in_shape(&globals));
     Ok(())
 }
