@@ -37,7 +37,7 @@ skip-sub zero ts σ = refl
 skip-sub (suc k) ε σ = refl
 skip-sub (suc k) (t ▸ ts) σ = skip-sub k ts σ
 
-as_lit-sub : (ns : List ℕ) (σ : ℕ → Term) (t : Term) (l : Lit) → as_lit t ≡ Some l → as_lit (sub σ t) ≡ Some l
+pub as_lit-sub : (ns : List ℕ) (σ : ℕ → Term) (t : Term) (l : Lit) → as_lit t ≡ Some l → as_lit (sub σ t) ≡ Some l
 as_lit-sub ns σ (node (Form.named (Named.lit k)) ε) l e = e
 as_lit-sub ns σ _ l e = absurd (none≢some e)
 

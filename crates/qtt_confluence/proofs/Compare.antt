@@ -15,11 +15,12 @@ use Rattle.qtt_confluence.proofs.Confluence.{conv-inside, convs-same, convs-back
 use Rattle.qtt_confluence.proofs.Heads.{stays, no-root}
 
 -- ---- a step toward the head is a contraction
-either-some : {A : Type 0} (o p : Option A) (a : A) → either o p ≡ Some a → (o ≡ Some a) ⊎ (p ≡ Some a)
+pub either-some : {A : Type 0} (o p : Option A) (a : A) → either o p ≡ Some a → (o ≡ Some a) ⊎ (p ≡ Some a)
 either-some None p a e = inr e
 either-some (Some b) p a e = inl e
 
-wrap-some : {A B : Type 0} (g : A → B) (o : Option A) (b : B) → wrap g o ≡ Some b → (a : A) × (o ≡ Some a) × (g a ≡ b)
+pub wrap-some : {A B : Type 0} (g : A → B) (o : Option A) (b : B) → wrap g o ≡ Some b →
+    (a : A) × (o ≡ Some a) × (g a ≡ b)
 wrap-some g None b e = absurd (none≢some e)
 wrap-some g (Some a) b e = (a, refl, some-injective e)
 

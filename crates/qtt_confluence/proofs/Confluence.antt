@@ -14,23 +14,23 @@ pub data ReducesParts (E : Env) : Terms → Terms → Type 0 where
   none_left : {ts : Terms} → ReducesParts E ts ts
   first_of : {ts ss rs : Terms} → Steps E ts ss → ReducesParts E ss rs → ReducesParts E ts rs
 
-reduces-join : {E : Env} {t s r : Term} → Reduces E t s → Reduces E s r → Reduces E t r
+pub reduces-join : {E : Env} {t s r : Term} → Reduces E t s → Reduces E s r → Reduces E t r
 reduces-join Reduces.done k = k
 reduces-join (Reduces.then h hs) k = Reduces.then h (reduces-join hs k)
 
-parts-join : {E : Env} {ts ss rs : Terms} → ReducesParts E ts ss → ReducesParts E ss rs → ReducesParts E ts rs
+pub parts-join : {E : Env} {ts ss rs : Terms} → ReducesParts E ts ss → ReducesParts E ss rs → ReducesParts E ts rs
 parts-join ReducesParts.none_left k = k
 parts-join (ReducesParts.first_of h hs) k = ReducesParts.first_of h (parts-join hs k)
 
-in-node : {E : Env} {F : Form} {ts ss : Terms} → ReducesParts E ts ss → Reduces E (node F ts) (node F ss)
+pub in-node : {E : Env} {F : Form} {ts ss : Terms} → ReducesParts E ts ss → Reduces E (node F ts) (node F ss)
 in-node ReducesParts.none_left = Reduces.done
 in-node (ReducesParts.first_of h hs) = Reduces.then (Step.inside h) (in-node hs)
 
-in-cell : {E : Env} {t s : Term} {ts : Terms} → Reduces E t s → ReducesParts E (t ▸ ts) (s ▸ ts)
+pub in-cell : {E : Env} {t s : Term} {ts : Terms} → Reduces E t s → ReducesParts E (t ▸ ts) (s ▸ ts)
 in-cell Reduces.done = ReducesParts.none_left
 in-cell (Reduces.then h hs) = ReducesParts.first_of (Steps.at h) (in-cell hs)
 
-behind-cell : {E : Env} {t : Term} {ts ss : Terms} → ReducesParts E ts ss → ReducesParts E (t ▸ ts) (t ▸ ss)
+pub behind-cell : {E : Env} {t : Term} {ts ss : Terms} → ReducesParts E ts ss → ReducesParts E (t ▸ ts) (t ▸ ss)
 behind-cell ReducesParts.none_left = ReducesParts.none_left
 behind-cell (ReducesParts.first_of h hs) = ReducesParts.first_of (Steps.after h) (behind-cell hs)
 
@@ -45,7 +45,7 @@ module _ {E : Env} where
     pars-reduces Pars.pnil = ReducesParts.none_left
     pars-reduces (Pars.pcell h hs) = parts-join (in-cell (par-reduces h)) (behind-cell (pars-reduces hs))
 
-many-reduces : {E : Env} {t s : Term} → ParMany (contract E) t s → Reduces E t s
+pub many-reduces : {E : Env} {t s : Term} → ParMany (contract E) t s → Reduces E t s
 many-reduces ParMany.pdone = Reduces.done
 many-reduces (ParMany.pthen h hs) = reduces-join (par-reduces h) (many-reduces hs)
 

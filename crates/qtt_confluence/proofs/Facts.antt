@@ -1,9 +1,11 @@
 -- The laws that the functions of this crate ensure.
-use Rattle.qtt_confluence.specs.Laws.{ContractionIsConfluent, TypesAreInjective, RigidHeadsDiffer, ConvertibleHeadsAgree, HeadIsExact, CountAloneLimits, ComparesByRecursion, EqualIsConvertible, DifferentIsApart, DefinitionsTell}
+use Rattle.qtt_confluence.specs.Laws.{ContractionIsConfluent, TypesAreInjective, RigidHeadsDiffer, ConvertibleHeadsAgree, HeadIsExact, ContractionIsStandard, HeadIsReached, CountAloneLimits, ComparesByRecursion, EqualIsConvertible, DifferentIsApart, DefinitionsTell}
 use Rattle.qtt_confluence.proofs.Confluence.{confluence}
 use Rattle.qtt_confluence.proofs.Injective.{injective}
 use Rattle.qtt_confluence.proofs.Compare.{agree, apart, convertible}
 use Rattle.qtt_confluence.proofs.HeadCount.{head-is_exact}
+use Rattle.qtt_confluence.proofs.Standard.{reduces-standard, standard-reduces}
+use Rattle.qtt_confluence.proofs.HeadReached.{head-reached}
 use Rattle.qtt_confluence.proofs.Count.{count-alone_limits}
 use Rattle.qtt_confluence.proofs.Recursion.{compares-by_recursion}
 use Rattle.qtt_confluence.proofs.Examples.{definitions-tell}
@@ -22,6 +24,12 @@ convertible_heads_agree E bodies t s h k c = agree E bodies t s h k c
 
 pub head_is_exact : HeadIsExact
 head_is_exact = head-is_exact
+
+pub contraction_is_standard : ContractionIsStandard
+contraction_is_standard E bodies t s = (reduces-standard E bodies, standard-reduces)
+
+pub head_is_reached : HeadIsReached
+head_is_reached = head-reached
 
 pub count_alone_limits : CountAloneLimits
 count_alone_limits = count-alone_limits

@@ -71,7 +71,7 @@ spent-at E n t e (inr r) = r
 pub spent : (E : Env) (n : ℕ) (t : Term) → (head E n t ≡ Head.spent) ↔ ((s : Term) × Toward E (suc n) t s)
 spent E n t = (λ e. spent-at E n t e (ends E n t), λ r. from-spent E n 0 t r.0 r.1)
 
-toward-reduces : {E : Env} {k : ℕ} {t h : Term} → Toward E k t h → Reduces E t h
+pub toward-reduces : {E : Env} {k : ℕ} {t h : Term} → Toward E k t h → Reduces E t h
 toward-reduces Toward.here = Reduces.done
 toward-reduces {E} (Toward.onward {t = t} {s = s} d w) = Reduces.then (head-steps E t s d) (toward-reduces w)
 

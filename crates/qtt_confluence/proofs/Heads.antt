@@ -22,7 +22,7 @@ pub wrap-none : {A B : Type 0} (g : A → B) (o : Option A) → wrap g o ≡ Non
 wrap-none g None e = refl
 wrap-none g (Some a) e = absurd (none≢some (sym e))
 
-no-some : {A : Type 0} (o : Option A) → ((a : A) → o ≡ Some a → ⊥) → o ≡ None
+pub no-some : {A : Type 0} (o : Option A) → ((a : A) → o ≡ Some a → ⊥) → o ≡ None
 no-some None h = refl
 no-some (Some a) h = absurd (h a refl)
 
@@ -191,7 +191,7 @@ back-root E ts ss (Root.by_delta {d = d} {b = b} g) h e = (
 back-root E ts ss {s = s} (Root.by_prim d g) h e = (s, contracts (Root.by_prim (sym h.literal ∙ d) g))
 
 -- ---- under parallel contraction
-as_lit-alike : {t s : Term} → Alike t s → as_lit s ≡ as_lit t
+pub as_lit-alike : {t s : Term} → Alike t s → as_lit s ≡ as_lit t
 as_lit-alike Alike.alike_var = refl
 as_lit-alike (Alike.alike_node {F = Form.named (Named.lit l)} {ts = ε} {ss = ε} e) = refl
 as_lit-alike (Alike.alike_node {F = Form.named (Named.lit l)} {ts = ε} {ss = s ▸ ss} e) = absurd (cc e)
@@ -230,12 +230,12 @@ stills-in E (Form.named (Named.act a k)) ts ss one more h = tt
 stills-in E _ ts ss one more h = tt
 
 -- no contraction comes of a still node
-record NodeStill (E : Env) (F : Form) (ts ss : Terms) : Type 0 where
-  here : contract E F ss ≡ None
-  step : head_step E (node F ss) ≡ None
-  alike : Alike (node F ts) (node F ss)
+pub record NodeStill (E : Env) (F : Form) (ts ss : Terms) : Type 0 where
+  pub here : contract E F ss ≡ None
+  pub step : head_step E (node F ss) ≡ None
+  pub alike : Alike (node F ts) (node F ss)
 
-still-stays : (E : Env) (F : Form) (ts ss : Terms) → contract E F ts ≡ None → size ts ≡ size ss →
+pub still-stays : (E : Env) (F : Form) (ts ss : Terms) → contract E F ts ≡ None → size ts ≡ size ss →
     StillIn E F ts ss → NodeStill E F ts ss
 still-stays E F ts ss n e h =
     let c : contract E F ss ≡ None =

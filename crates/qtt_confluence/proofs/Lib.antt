@@ -9,5 +9,8 @@ pub mod Compare
 pub mod HeadCount
 pub mod Count
 pub mod Recursion
+pub mod HeadSteps
+pub mod Standard
+pub mod HeadReached
 pub mod Examples
 pub mod Facts

@@ -6,6 +6,7 @@ use Rattle.qtt_term.specs.Contraction.{Reduces, Conv, BodiesClosed}
 use Rattle.qtt_term.specs.Question.{Head, head, Item, Answer, within_count, compare}
 use Rattle.qtt_confluence.specs.Injective.{Convs, Injective}
 use Rattle.qtt_confluence.specs.Heads.{IsHead, Toward, outline, parts}
+use Rattle.qtt_confluence.specs.Standard.{Standard, HasHeadLike}
 use Rattle.qtt_confluence.specs.Comparison.{Comparison, answered, Compares, Compared}
 use Rattle.qtt_confluence.specs.Examples.{ConversionTells, OtherContractions, TwoWays, ComparisonTells}
 
@@ -35,6 +36,14 @@ pub record HeadIsExact : Type 0 where
   pub spent : (E : Env) (n : ℕ) (t : Term) → (head E n t ≡ Head.spent) ↔ ((s : Term) × Toward E (suc n) t s)
   -- a term contracts to its head
   pub reduces : (E : Env) (n k : ℕ) (t h : Term) → head E n t ≡ Head.done h k → Reduces E t h
+
+-- what a term contracts to, by any contractions, it contracts to by contractions toward the head first
+abbrev pub ContractionIsStandard : Type 0
+ContractionIsStandard = (E : Env) → BodiesClosed E → (t s : Term) → Reduces E t s ↔ Standard E t s
+
+-- the contractions toward the head end wherever a term is convertible to a head at all: at a head of its outline
+abbrev pub HeadIsReached : Type 0
+HeadIsReached = (E : Env) → BodiesClosed E → (t s : Term) → Conv E t s → IsHead E s → HasHeadLike E t s
 
 -- the count alone limits a comparison, and an answer stands under each greater count
 pub record CountAloneLimits : Type 0 where

@@ -1,6 +1,6 @@
 //! Laws of contraction and conversion. Each function does nothing: its contract is the law.
 
-ghost use Rattle.qtt_confluence.specs.Laws.{ContractionIsConfluent, TypesAreInjective, RigidHeadsDiffer, ConvertibleHeadsAgree, HeadIsExact, CountAloneLimits, ComparesByRecursion, EqualIsConvertible, DifferentIsApart, DefinitionsTell};
+ghost use Rattle.qtt_confluence.specs.Laws.{ContractionIsConfluent, TypesAreInjective, RigidHeadsDiffer, ConvertibleHeadsAgree, HeadIsExact, ContractionIsStandard, HeadIsReached, CountAloneLimits, ComparesByRecursion, EqualIsConvertible, DifferentIsApart, DefinitionsTell};
 
 /// Two convertible terms contract to a common term.
 pub fn contraction_is_confluent()
@@ -28,6 +28,18 @@ pub fn convertible_heads_agree()
 /// where one contraction more than the count can be made. A term contracts to its head.
 pub fn head_is_exact()
     ensures { HeadIsExact }
+{}
+
+/// What a term contracts to by any contractions, wherever they are made, it contracts to by
+/// contractions toward the head first and then, in the same way, inside the components.
+pub fn contraction_is_standard()
+    ensures { ContractionIsStandard }
+{}
+
+/// A term that is convertible to a head has a head within some count, of the same form and fixed
+/// parts, with convertible components.
+pub fn head_is_reached()
+    ensures { HeadIsReached }
 {}
 
 /// The comparison is that of its relation, in which nothing but the count of contractions limits

@@ -40,12 +40,12 @@ agree-outs : (Γ : Ctx) (Θ : Tele) (u w : Use) → VariablesAgree (ext Γ Θ) u
 agree-outs Γ [] u w h i s = h i s
 agree-outs Γ (b ∷ Θ) u w h i s = agree-outs (b ∷ Γ) Θ u w h (suc i) s
 
-fits-agree : (Γ : Ctx) (Θ : Tele) (u w : Use) → VariablesAgree (ext Γ Θ) u w → BindersFit Θ u → BindersFit Θ w
+pub fits-agree : (Γ : Ctx) (Θ : Tele) (u w : Use) → VariablesAgree (ext Γ Θ) u w → BindersFit Θ u → BindersFit Θ w
 fits-agree Γ [] u w h f = tt
 fits-agree Γ (b ∷ Θ) u w h f =
     (subst (λ m. m ≼ b.0) (agree-outs (b ∷ Γ) Θ u w h 0 tt) f.0, fits-agree (b ∷ Γ) Θ u w h f.1)
 
-dead-or : (d b : Bool) → (d ≡ false → b ≡ true) → cond d true b ≡ true
+pub dead-or : (d b : Bool) → (d ≡ false → b ≡ true) → cond d true b ≡ true
 dead-or true b e = refl
 dead-or false b e = e refl
 

@@ -74,7 +74,7 @@ convs-skip (suc k) (x ▸ xs) (t ▸ ts) ss e (Convs.more c h) = convs-skip k xs
 
 module _ (E : Env) (counted : ResultsCounted E) (bodies : BodiesClosed E) (p : Part) (Γ : Ctx) (q : Mult)
     (f : GlobalId) where
-  self-counted : (σ : ℕ → Term) (is : Terms) →
+  pub self-counted : (σ : ℕ → Term) (is : Terms) →
       size (subs [] (push is σ) (self_parts E f)) ≡ length (family_wants (fam_at E f))
   self-counted σ is =
       let x = length (family_at E f).indices in
@@ -83,7 +83,7 @@ module _ (E : Env) (counted : ResultsCounted E) (bodies : BodiesClosed E) (p : P
       ∙ omega (arith, size-above x k, size-above 0 x, wants-counted E f)
 
   -- a family's type is that at the indices of its head
-  self-found : (σ : ℕ → Term) (is xs : Terms) (A : Term) → size is ≡ length (family_at E f).indices →
+  pub self-found : (σ : ℕ → Term) (is xs : Terms) (A : Term) → size is ≡ length (family_at E f).indices →
       Conv E A (sub (push is σ) (fam_at E f).self) → Conv E A (Fam f xs) →
       Conv E A (sub (push (skip (length (fam_at E f).params) xs) σ) (fam_at E f).self)
   self-found σ is xs A e c d =

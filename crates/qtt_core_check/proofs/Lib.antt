@@ -16,6 +16,10 @@ pub mod Heads
 pub mod Clean
 pub mod CleanCase
 pub mod NeverFails
+pub mod Answered
+pub mod Inferable
+pub mod InferableCase
+pub mod AcceptedInferred
 pub mod Scopes
 pub mod Within
 pub mod Variables

@@ -39,16 +39,16 @@ never-spent (Ends.are_equal e x) = never-spent x
 never-spent (Ends.are_different e x) = never-spent x
 
 -- ---- tests that hold
-test-usable : (p : Part) (q : Mult) → Usable p q → usable p q ≡ true
+pub test-usable : (p : Part) (q : Mult) → Usable p q → usable p q ≡ true
 test-usable Part.run 𝟘 h = absurd h
 test-usable Part.run 𝟙 h = refl
 test-usable Part.run ω h = refl
 test-usable Part.erased q h = refl
 
-test-same : (q r : Mult) → r ≡ q → same_mult q r ≡ true
+pub test-same : (q r : Mult) → r ≡ q → same_mult q r ≡ true
 test-same q r e = grind arith
 
-test-scope : (Γ : Ctx) (i : ℕ) → InScope Γ i → nat_lt i (length Γ) ≡ true
+pub test-scope : (Γ : Ctx) (i : ℕ) → InScope Γ i → nat_lt i (length Γ) ≡ true
 test-scope Γ i h = lt-ltb i (length Γ) (below Γ i h)
   where
     below : (Γ : Ctx) (i : ℕ) → InScope Γ i → i < length Γ
@@ -56,37 +56,37 @@ test-scope Γ i h = lt-ltb i (length Γ) (below Γ i h)
     below (b ∷ Γ) zero h = omega arith
     below (b ∷ Γ) (suc i) h = let k : i < length Γ = below Γ i h in omega arith
 
-test-there : {A : Type 0} (o : Option A) → There o → is_there o ≡ true
+pub test-there : {A : Type 0} (o : Option A) → There o → is_there o ≡ true
 test-there None h = absurd h
 test-there (Some a) h = refl
 
-test-named : (E : Env) (n : Named) → NamedThere E n → named_there E n ≡ true
+pub test-named : (E : Env) (n : Named) → NamedThere E n → named_there E n ≡ true
 test-named E (Named.def d) h = test-there (E.definition d) h
 test-named E (Named.lit l) h = refl
 test-named E (Named.prim_ty r) h = refl
 test-named E (Named.prim r) h = refl
 test-named E (Named.act a k) h = eq-eqb k (type_arguments a) h
 
-test-con : {cs : List ConSig} {n : ℕ} {c : ConSig} → IsCon cs n c → slice_get cs n ≡ Some c
+pub test-con : {cs : List ConSig} {n : ℕ} {c : ConSig} → IsCon cs n c → slice_get cs n ≡ Some c
 test-con IsCon.here = refl
 test-con (IsCon.there h) = test-con h
 
-test-both : {a b : Bool} → a ≡ true → b ≡ true → (a && b) ≡ true
+pub test-both : {a b : Bool} → a ≡ true → b ≡ true → (a && b) ≡ true
 test-both {a} {b} d e = rw (d, e) refl
 
 -- erased parameters and arguments are one list
-all-args : {Ξ Θ : Tele} {σ : ℕ → Term} {ts : Terms} {js : List Judged} {S R : Term} → ParamsThenArgs Ξ Θ σ ts js S R →
-    Args (scale 𝟘 Θ ++ Ξ) σ ts js
+pub all-args : {Ξ Θ : Tele} {σ : ℕ → Term} {ts : Terms} {js : List Judged} {S R : Term} →
+    ParamsThenArgs Ξ Θ σ ts js S R → Args (scale 𝟘 Θ ++ Ξ) σ ts js
 all-args (ParamsThenArgs.param a) = Args.more (all-args a)
 all-args (ParamsThenArgs.done a) = a
 
 module _ (E : Env) (counted : ResultsCounted E) (bodies : BodiesClosed E) where
-  family-args : (f : GlobalId) → scale 𝟘 (fam_at E f).params ++ scale 𝟘 (fam_at E f).indices ≡ tele_of
+  pub family-args : (f : GlobalId) → scale 𝟘 (fam_at E f).params ++ scale 𝟘 (fam_at E f).indices ≡ tele_of
       (family_wants (fam_at E f))
   family-args f = sym (tele_of-wanted _ (erase_binds ((fam_at E f).params ++ (fam_at E f).indices))
       ∙ scale-append 𝟘 (fam_at E f).params (fam_at E f).indices)
 
-  con-args : (f : GlobalId) (c : ConSig) →
+  pub con-args : (f : GlobalId) (c : ConSig) →
       scale 𝟘 (fam_at E f).params ++ c.fields ≡ tele_of (constructor_wants (fam_at E f) c)
   con-args f c =
       sym (tele_of-append (wanted (at rule.Con 1) (erase_binds (fam_at E f).params)) (wanted (at rule.Con 2) c.fields)
@@ -96,7 +96,7 @@ module _ (E : Env) (counted : ResultsCounted E) (bodies : BodiesClosed E) where
   length-tele [] = refl
   length-tele (w ∷ ws) = ap suc (length-tele ws)
 
-  test-size : (ws : List Wanted) {σ : ℕ → Term} {ts : Terms} {js : List Judged} → Args (tele_of ws) σ ts js →
+  pub test-size : (ws : List Wanted) {σ : ℕ → Term} {ts : Terms} {js : List Judged} → Args (tele_of ws) σ ts js →
       eqb (size ts) (length ws) ≡ true
   test-size ws {ts = ts} a = eq-eqb (size ts) (length ws) (args-size a ∙ length-tele ws)
 

@@ -1,5 +1,5 @@
 -- The laws that the functions of this crate ensure.
-use Rattle.std.specs.Prelude.{◌≡◌, ℕ, ◌≤◌, true}
+use Rattle.std.specs.Prelude.{◌≡◌, ◌↔◌, ℕ, ◌≤◌, true}
 use Rattle.qtt_term.specs.Signature.{Env}
 use Rattle.qtt_usage.specs.Usage.{usage_at, use_of}
 use Rattle.qtt_term.specs.Term.{Term}
@@ -79,3 +79,20 @@ pub record FailuresAreSo (E : Env) : Type 0 where
   pub typed : (p : Part) (Γ : Ctx) (t A : Term) (u : Use) → Typed E p Γ t A u → SmallSorts t → InRun p (NoTrap t) →
       (e : Inference) →
       Ends E (infer E p Γ t) e → Reports E Γ A u e
+
+-- inferred without a bound, with this type up to conversion and with this use
+pub record IsInferred (E : Env) (p : Part) (Γ : Ctx) (t A : Term) (u : Use) : Type 0 where
+  pub inferred : Inferred
+  pub ends : Ends E (infer E p Γ t) (Ending.ok inferred)
+  pub type : Conv E inferred.type A
+  pub uses : (x : Key) → KeyIn Γ x → u x ≡ use_of inferred.uses x
+
+-- the judgement accepts exactly what has a derivation: what it infers has one, with its type and its uses of
+-- variables; whatever has one it infers, so that each question on the way has its answer, with the type of the
+-- derivation up to conversion and its use. Where no tape stands in a term, the one is the other
+pub record AcceptedIsInferred (E : Env) : Type 0 where
+  pub derived : (p : Part) (Γ : Ctx) (t : Term) (j : Inferred) → Ends E (infer E p Γ t) (Ending.ok j) →
+      AcceptsUses E p Γ t j.type j.uses
+  pub inferred : (p : Part) (Γ : Ctx) (t A : Term) (u : Use) → Accepts E p Γ t A u →
+      (j : Inferred) × Ends E (infer E p Γ t) (Ending.ok j) × Reports E Γ A u (Ending.ok j)
+  pub exactly : (p : Part) (Γ : Ctx) (t A : Term) (u : Use) → NoTape t → Accepts E p Γ t A u ↔ IsInferred E p Γ t A u

@@ -3,7 +3,7 @@
 ghost use Rattle.qtt_term.specs.Signature.{Env};
 ghost use Rattle.qtt_term.specs.Contraction.{BodiesClosed};
 ghost use Rattle.qtt_term.specs.Judgement.{Ctx, Part};
-ghost use Rattle.qtt_core_check.specs.Laws.{EndingsAreSo, OneEnding, LargerBudgetsKeepEndings, InferIsSound, AcceptedIsTyped, OneTypeAndUse, FailuresAreSo};
+ghost use Rattle.qtt_core_check.specs.Laws.{EndingsAreSo, OneEnding, LargerBudgetsKeepEndings, InferIsSound, AcceptedIsTyped, OneTypeAndUse, FailuresAreSo, AcceptedIsInferred};
 ghost use Rattle.qtt_core_check.specs.Examples.{DeadPartsUseNothing, SortsAreBounded};
 ghost use Rattle.qtt_term.specs.Environment.{ResultsCounted};
 ghost use Rattle.qtt_term.specs.Environment.{WellFormed};
@@ -57,4 +57,10 @@ pub fn one_type_and_use()
 /// What fails is not accepted, and what is accepted never fails where the judgement ends.
 pub fn failures_are_so()
     ensures { (E : Env) → BodiesClosed E → ResultsCounted E → FailuresAreSo E }
+{}
+
+/// Without a bound the judgement accepts exactly what has a derivation: what it infers has one, and
+/// whatever has one it infers, with that type up to conversion and that use.
+pub fn accepted_is_inferred()
+    ensures { (E : Env) → BodiesClosed E → ResultsCounted E → AcceptedIsInferred E }
 {}

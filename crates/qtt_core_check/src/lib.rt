@@ -14,9 +14,9 @@
 //! judgement, and it has all of these for terms with Sorts of 32 bits in which, in the run part,
 //! no missing clause stands (`accepted_is_typed`; worked in `dead_parts_use_nothing` and
 //! `sorts_are_bounded`). What is inferred is derived in both (`infer_is_sound`). A term has one
-//! type up to conversion, and one use where it is accepted (`one_type_and_use`); and wherever
-//! the judgement of an accepted term ends, it ends with its type and its use
-//! (`failures_are_so`).
+//! type up to conversion, and one use where it is accepted (`one_type_and_use`). So without a
+//! bound the list accepts exactly what has a derivation, with its type and its use
+//! (`accepted_is_inferred`), and never fails on what has one (`failures_are_so`).
 //!
 //! A theory: its lemmas may be cited.
 #![tactic(auto)]
