@@ -25,3 +25,4 @@ pub mod Each
 pub mod InShape
 pub mod Tests
 pub mod Shaped
+pub mod EnvironmentShape

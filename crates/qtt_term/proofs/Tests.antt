@@ -70,7 +70,7 @@ size-seen : (ts : List code.Term) → size (side_by_side (terms ts)) ≡ length 
 size-seen [] = refl
 size-seen (t ∷ ts) = ap suc (size-seen ts)
 
-all-counted : (F : code_family.Family) →
+pub all-counted : (F : code_family.Family) →
     results_counted (family F) ≡ list_all (λ c. eqb (length c.result.items) (length F.indices.items))
     F.constructors.items
 all-counted F = each F.constructors.items

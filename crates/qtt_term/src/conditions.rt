@@ -110,7 +110,7 @@ fn are_absent(globals: &Globals, constructors: &[Constructor]) -> bool
 }
 
 /// Whether the result of each constructor has so many terms.
-fn are_counted(constructors: &[Constructor], indices: usize) -> bool
+pub(crate) fn are_counted(constructors: &[Constructor], indices: usize) -> bool
     ensures { result ≡ list_all (λ c. eqb (length c.result.items) indices) constructors.now }
 {
     for constructor in constructors {

@@ -47,7 +47,7 @@ fn same_term(one: &Term, other: &Term) -> bool
 }
 
 #[cycle(same_term)]
-fn same_all(ones: &[Term], others: &[Term]) -> bool
+pub(crate) fn same_all(ones: &[Term], others: &[Term]) -> bool
     ensures { IsTrue result ↔ (terms ones.now ≡ terms others.now) }
 {
     if ones.len() != others.len() {

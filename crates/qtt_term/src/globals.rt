@@ -202,6 +202,14 @@ impl Globals {
         }
     }
 
+    /// All families, in ascending order of module and item.
+    pub(crate) fn families(&self) -> &[Family]
+        ensures all { map family_entry result.now ≡ families_of self.now }
+        ensures ascend { IsTrue (ascends family_id (families_of self.now)) }
+    {
+        &self.families
+    }
+
     /// All definitions, in ascending order of module and item.
     pub fn definitions(&self) -> &[Definition]
         ensures all { map definition_entry result.now ≡ definitions_of self.now }

@@ -5,7 +5,8 @@
 //! with `prim`, `add_family`, `add_signature`, `set_body`, its look-ups, `copy`, `part` and
 //! `adopt`, keeps ids, names, order and contents exactly, and a refused growth changes nothing;
 //! in every environment bodies are closed and results counted
-//! (`laws::globals_keep_their_facts`). Beside each condition stands its test.
+//! (`laws::globals_keep_their_facts`). Beside each condition stands its test, and
+//! `Globals::is_in_shape` tells whether the environment and all its items are in shape.
 //!
 //! `laws`: simultaneous substitution (`substitution_laws`); exactly the values have the outcome
 //! value (`values_are_kept`); each full step is a contraction (`full_steps_contract`); no
@@ -22,6 +23,7 @@ pub mod conditions;
 pub mod context;
 pub mod convert;
 pub mod copying;
+pub mod environment_shape;
 pub mod equality;
 pub mod examples;
 pub mod free;

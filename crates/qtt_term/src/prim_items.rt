@@ -13,7 +13,7 @@ use qtt_base::{GlobalId, MemoryError, ModuleId, Name};
 use qtt_usage::mult::Mult;
 use std::alloc::Global;
 
-fn prim_id(item: u32) -> GlobalId
+pub(crate) fn prim_id(item: u32) -> GlobalId
     ensures { result ≡ id_of item }
 {
     GlobalId {

@@ -41,7 +41,7 @@ impl Ctx {
     }
 }
 
-fn vars_in_shape(env: &Globals, vars: &[(Mult, Term)]) -> bool
+pub(crate) fn vars_in_shape(env: &Globals, vars: &[(Mult, Term)]) -> bool
     ensures { result ≡ list_all (λ v. shape_of (env_of env.now) (term v.1)) vars.now }
 {
     for (_mult, ty) in vars {
@@ -68,7 +68,7 @@ fn names_in_shape(env: &Globals, names: &[(Term, Term)]) -> bool
 
 #[cycle(in_shape)]
 #[tactic(auto, using(crate::proofs::Shaped::shaped))]
-fn in_shape(env: &Globals, source: &Term) -> bool
+pub(crate) fn in_shape(env: &Globals, source: &Term) -> bool
     ensures { result ≡ shape_of (env_of env.now) (term source.now) }
 {
     match source {
@@ -97,7 +97,7 @@ fn in_shape(env: &Globals, source: &Term) -> bool
 
 #[cycle(in_shape)]
 #[tactic(auto, using(crate::proofs::Shaped::shaped))]
-fn all_in_shape(env: &Globals, sources: &[Term]) -> bool
+pub(crate) fn all_in_shape(env: &Globals, sources: &[Term]) -> bool
     ensures { result ≡ shapes_of (env_of env.now) (side_by_side (terms sources.now)) }
 {
     for source in sources {

@@ -100,5 +100,7 @@ fn conditions_have_their_tests(rt: HostRuntime) -> Result<(), Fail> {
     assert!(rt; !Term::Var(0).is_closed());
     assert!(rt; function.is_in_shape(&globals));
     assert!(rt; context.is_in_shape(&globals));
+    assert!(rt; globals.is_in_shape());
+    assert!(rt; !globals.part(alloc, ModuleId(1))?.is_in_shape());
     Ok(())
 }
