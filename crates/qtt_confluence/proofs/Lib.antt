@@ -11,3 +11,5 @@ pub mod Count
 pub mod Recursion
 pub mod Examples
 pub mod Facts
+pub mod Endings
+pub mod Definitions

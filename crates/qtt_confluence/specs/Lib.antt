@@ -3,3 +3,4 @@ pub mod Heads
 pub mod Comparison
 pub mod Examples
 pub mod Laws
+pub mod Lists

@@ -1,4 +1,3 @@
-pub mod Endings
 pub mod Parts
 pub mod Lists
 pub mod Derived
@@ -16,12 +15,12 @@ pub mod Heads
 pub mod Clean
 pub mod CleanCase
 pub mod NeverFails
+pub mod Unread
 pub mod Scopes
 pub mod Within
 pub mod Variables
 pub mod Views
 pub mod Functions
-pub mod Binders
 pub mod Continuing
 pub mod ArgumentLists
 pub mod FormRows

@@ -25,3 +25,6 @@ pub mod Each
 pub mod InShape
 pub mod Tests
 pub mod Shaped
+pub mod Reading
+pub mod Binders
+pub mod ReadingRows
