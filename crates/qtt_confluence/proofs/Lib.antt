@@ -14,3 +14,5 @@ pub mod Standard
 pub mod HeadReached
 pub mod Examples
 pub mod Facts
+pub mod Endings
+pub mod Definitions

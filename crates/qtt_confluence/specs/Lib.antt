@@ -4,3 +4,4 @@ pub mod Standard
 pub mod Comparison
 pub mod Examples
 pub mod Laws
+pub mod Lists

@@ -12,10 +12,17 @@
 //! head (`head_is_exact`, `count_alone_limits`). `decide` answers exactly the question, by any
 //! `Converter`: Equal only where the terms are convertible, Different only where they are not.
 //!
+//! For every list of questions (heads, readings of indices, comparisons): what it answers within
+//! a budget is so without one (`lists::endings_are_so`), it has one ending (`one_ending`), and a
+//! larger budget changes only what was spent (`larger_budgets_keep_endings`). Heads and
+//! comparisons read definitions alone (`questions_read_definitions`), and so do lists without a
+//! reading (`lists_read_definitions`).
+//!
 //! A theory: its lemmas may be cited.
 #![tactic(auto)]
 
 mod deciding;
 pub mod laws;
+pub mod lists;
 
 pub use deciding::decide;

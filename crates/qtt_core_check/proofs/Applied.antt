@@ -16,12 +16,13 @@ use Rattle.qtt_term.specs.Signature.{Tele, Env, fam_at, act_signature, IntTy, St
 use Rattle.qtt_term.specs.Judgement.{Ctx, Part, erase_binds}
 use Rattle.qtt_term.specs.Ask.{Ask, ◌>>=◌}
 use Rattle.qtt_term.specs.View.{term, terms, side_by_side}
-use Rattle.qtt_term.specs.Infer.{Asks, Premise, at, wanted, need, has, usable, Inferred, inferred, infer, arguments}
+use Rattle.qtt_term.specs.Infer.{Asks, Premise, at, wanted, has, usable, Inferred, inferred, infer, arguments}
+use Rattle.qtt_term.specs.Premises.{need}
 use Rattle.qtt_core_check.specs.declared.refusal.CoreRefusal.{CoreRefusal}
 use Rattle.qtt_core_check.specs.declared.named_rows.Made as code_made
-use Rattle.qtt_core_check.specs.declared.signatures.Signature as code_signature
-use Rattle.qtt_core_check.specs.Filled.{tele, filled}
-use Rattle.qtt_core_check.specs.Signatures.{signature as signature_of, lit_type, applies}
+use Rattle.qtt_term.specs.declared.signatures.Signature as code_signature
+use Rattle.qtt_term.specs.Telescopes.{tele, filled, signature as signature_of}
+use Rattle.qtt_core_check.specs.Signatures.{lit_type, applies}
 use Rattle.qtt_core_check.specs.Constructors.{IsMade}
 use Rattle.qtt_core_check.specs.TwoLists.{con_parts, act_parts, act_shaped}
 use Rattle.qtt_core_check.specs.Seen.{Reaches, Refuses, Gives, judged}
@@ -31,7 +32,7 @@ use Rattle.qtt_core_check.proofs.Arguments.{length-wanted}
 use Rattle.qtt_core_check.proofs.Scopes.{length-tele}
 use Rattle.qtt_core_check.proofs.Within.{on, on_done, here, later, holds, reached, tail}
 use Rattle.qtt_core_check.proofs.ArgumentLists.{size-side, wanted-append, one-reaches}
-use Rattle.qtt_core_check.proofs.Binders.{side-joined}
+use Rattle.qtt_term.proofs.Binders.{side-joined}
 use Rattle.qtt_core_check.proofs.FormRows.{con_need, many-usable, named-asks, act-many, con-asks, con-refused}
 use Rattle.qtt_core_check.proofs.ArgumentRows.{first-refused, second-refused, both-reach, both-filled}
 

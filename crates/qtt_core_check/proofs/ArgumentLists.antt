@@ -14,14 +14,14 @@ use Rattle.qtt_term.specs.Judgement.{Ctx, Part, under}
 use Rattle.qtt_term.specs.View.{term, terms, side_by_side}
 use Rattle.qtt_term.specs.Infer.{Asks, Premise, Wanted, wanted, has, infer, arguments}
 use Rattle.qtt_core_check.specs.declared.refusal.CoreRefusal.{CoreRefusal}
-use Rattle.qtt_core_check.specs.Filled.{tele, filled}
+use Rattle.qtt_term.specs.Telescopes.{tele, filled}
 use Rattle.qtt_core_check.specs.Seen.{Reaches, Refuses}
 use Rattle.qtt_core_check.proofs.Lists.{length-sum, length-scaled, length-none}
 use Rattle.qtt_core_check.proofs.Within.{on, on_done, here, reached}
 use Rattle.qtt_core_check.proofs.Continuing.{Passes, middle, done-is, refused, done-passes, passes-then, passes-after, passes-mapped, passes-along}
 use Rattle.qtt_core_check.proofs.Arguments.{length-wanted}
 use Rattle.qtt_core_check.proofs.Scopes.{length-tele}
-use Rattle.qtt_core_check.proofs.Binders.{side-joined, push-append}
+use Rattle.qtt_term.proofs.Binders.{side-joined, push-append}
 
 -- ---- sums of uses
 sum-assoc : (us vs ws : List Mult) → usage_sum (usage_sum us vs) ws ≡ usage_sum us (usage_sum vs ws)

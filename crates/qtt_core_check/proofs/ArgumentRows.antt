@@ -12,12 +12,12 @@ use Rattle.qtt_term.specs.Judgement.{Ctx, Part}
 use Rattle.qtt_term.specs.View.{term, terms, side_by_side}
 use Rattle.qtt_term.specs.Infer.{Premise, Wanted, wanted, inferred, arguments}
 use Rattle.qtt_core_check.specs.declared.refusal.CoreRefusal.{CoreRefusal}
-use Rattle.qtt_core_check.specs.Filled.{tele, filled}
+use Rattle.qtt_term.specs.Telescopes.{tele, filled}
 use Rattle.qtt_core_check.specs.Seen.{Reaches, Refuses}
 use Rattle.qtt_core_check.proofs.Within.{on, on_done, here, reached}
 use Rattle.qtt_core_check.proofs.Continuing.{refused}
 use Rattle.qtt_core_check.proofs.ArgumentLists.{size-side, filled-more, append-reaches, append-first, append-second}
-use Rattle.qtt_core_check.proofs.Binders.{push-append}
+use Rattle.qtt_term.proofs.Binders.{push-append}
 use Rattle.qtt_core_check.specs.Signatures.{applies}
 
 -- the values for no binder, and for arguments

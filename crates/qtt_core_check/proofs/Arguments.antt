@@ -16,9 +16,11 @@ use Rattle.qtt_term.specs.Judgement.{Ctx, IsCon, Part, under, Judged, judged, su
 use Rattle.qtt_term.specs.Accepted.{live, AcceptsAll}
 use Rattle.qtt_term.specs.Environment.{NoTapes}
 use Rattle.qtt_term.specs.Ask.{Ask, ◌>>=◌, Ending, Ends}
-use Rattle.qtt_term.specs.Infer.{Premise, at, Inferred, inferred, need, is_there, usable, named_there, Wanted, wanted, family_wants, constructor_wants, arguments, constructor_at, rule_of}
+use Rattle.qtt_term.specs.Infer.{Premise, at, Inferred, inferred, is_there, usable, named_there, Wanted, wanted, family_wants, constructor_wants, arguments, constructor_at, rule_of}
+use Rattle.qtt_term.specs.Premises.{need}
 use Rattle.qtt_term.specs.declared.rule.Rule.TheVariants as rule
 use Rattle.qtt_term.proofs.Options.{some-injective}
+use Rattle.qtt_term.proofs.Binders.{scale-append}
 use Rattle.qtt_preserve.proofs.Travel.{always}
 use Rattle.qtt_preserve.proofs.Iota.{no_branch}
 use Rattle.qtt_core_check.proofs.Parts.{parts, ended, never, holding}
@@ -115,10 +117,6 @@ params-first Ξ (b ∷ Θ) σ ε js S a = elim a [ ]
 params-first Ξ (b ∷ Θ) σ (t ▸ ts) [] S a = elim a [ ]
 params-first Ξ (b ∷ Θ) σ (t ▸ ts) (j ∷ js) S (Args.more a) =
     ParamsThenArgs.param (params-first Ξ Θ (cons t σ) ts js S a)
-
-pub scale-append : (q : Mult) (Θ Ξ : Tele) → scale q (Θ ++ Ξ) ≡ scale q Θ ++ scale q Ξ
-scale-append q [] Ξ = refl
-scale-append q (b ∷ Θ) Ξ = ap (λ Θ. (q ⊙ b.0, b.1) ∷ Θ) (scale-append q Θ Ξ)
 
 -- ---- forms with arguments
 pub is-there : {A : Type 0} (o : Option A) → is_there o ≡ true → There o

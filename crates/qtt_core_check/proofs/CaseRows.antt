@@ -16,7 +16,7 @@ use Rattle.qtt_term.specs.View.{term, terms, branches, side_by_side}
 use Rattle.qtt_term.specs.Infer.{Asks, at, wanted, type_of, agree, unbound, CaseOf, Inferred, infer, arguments}
 use Rattle.qtt_core_check.specs.declared.judged.Judged.{Judged}
 use Rattle.qtt_core_check.specs.declared.refusal.CoreRefusal.{CoreRefusal}
-use Rattle.qtt_core_check.specs.Filled.{filled}
+use Rattle.qtt_term.specs.Telescopes.{filled}
 use Rattle.qtt_core_check.specs.Cases.{branch_asks, branches_ask, scrutinee_asks}
 use Rattle.qtt_core_check.specs.Seen.{Reaches, Refuses, Gives, judged}
 use Rattle.qtt_core_check.proofs.Within.{here, later, tail}

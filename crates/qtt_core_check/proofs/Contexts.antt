@@ -13,12 +13,12 @@ use Rattle.qtt_term.specs.Contexts.{variables}
 use Rattle.qtt_term.specs.Infer.{at, infer}
 use Rattle.qtt_core_check.specs.declared.refusal.CoreRefusal.{CoreRefusal}
 use Rattle.qtt_core_check.specs.declared.refusal.CoreRefusal.TheVariants as refusal
-use Rattle.qtt_core_check.specs.Filled.{tele}
-use Rattle.qtt_core_check.specs.FirstSpent.{FirstSpent, Says}
+use Rattle.qtt_term.specs.Telescopes.{tele}
+use Rattle.qtt_term.specs.FirstSpent.{FirstSpent, Says}
 use Rattle.qtt_core_check.specs.Meaning.{typed_as, IsSo, IsNotAccepted, WhereFails, WhereSpent, Infers}
 use Rattle.qtt_term.specs.Environment.{ResultsCounted}
 use Rattle.qtt_core_check.specs.Seen.{Reaches, Refuses, Gives, question}
-use Rattle.qtt_core_check.proofs.Endings.{says}
+use Rattle.qtt_confluence.proofs.Endings.{says}
 use Rattle.qtt_core_check.proofs.Sound.{sound}
 use Rattle.qtt_core_check.proofs.NeverFails.{failures}
 

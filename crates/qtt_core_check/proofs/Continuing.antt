@@ -15,6 +15,7 @@ unfolding ◌>>=◌
 bind-assoc (Ask.done a) k l = refl
 bind-assoc (Ask.fail f) k l = refl
 bind-assoc (Ask.head p d t g) k l = ap (Ask.head p d t) (fun_ext λ h. bind-assoc (g h) k l)
+bind-assoc (Ask.read p d t g) k l = ap (Ask.read p d t) (fun_ext λ r. bind-assoc (g r) k l)
 bind-assoc (Ask.compare p d t s m w) k l = ap₂ (Ask.compare p d t s) (bind-assoc m k l) (bind-assoc w k l)
 
 pub bind-done : {F P A B : Type 0} (a : A) (k : A → Ask F P B) → Ask.done a >>= k ≡ k a

@@ -14,7 +14,7 @@ use Rattle.qtt_term.specs.Substitution.{sub, closed}
 use Rattle.qtt_term.specs.Signature.{Tele, Env, Constructor, Family, Definition, con_sig, con_sigs, family_of, fam_sig, fam_at, index_binders}
 use Rattle.qtt_term.specs.Judgement.{Ctx, Part, erase_binds}
 use Rattle.qtt_term.specs.Infer.{Premise, at, inferred, is_there, usable, wanted, family_wants, constructor_wants, infer}
-use Rattle.qtt_core_check.specs.Filled.{tele}
+use Rattle.qtt_term.specs.Telescopes.{tele}
 use Rattle.qtt_core_check.specs.Constructors.{counted, made_shaped}
 use Rattle.qtt_core_check.specs.Seen.{Reaches, Fails}
 use Rattle.qtt_preserve.proofs.Travel.{length-scale}

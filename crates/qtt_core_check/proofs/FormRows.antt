@@ -16,7 +16,8 @@ use Rattle.qtt_term.specs.Judgement.{Ctx, Part, ext, sub_binds, scale, under, er
 use Rattle.qtt_term.specs.Ask.{Ask, ◌>>=◌}
 use Rattle.qtt_term.specs.declared.rule.Rule.TheVariants as rule
 use Rattle.qtt_term.specs.View.{side_by_side}
-use Rattle.qtt_term.specs.Infer.{Asks, at, inferred, need, agree, is_there, usable, named_there, has, type_of, wanted, family_wants, constructor_wants, rule_of, field_counts, CaseOf, infer, arguments, case_params, case_branches, unbound, with_branch}
+use Rattle.qtt_term.specs.Infer.{Asks, at, inferred, agree, is_there, usable, named_there, has, type_of, wanted, family_wants, constructor_wants, rule_of, field_counts, CaseOf, infer, arguments, case_params, case_branches, unbound, with_branch}
+use Rattle.qtt_term.specs.Premises.{need}
 use Rattle.qtt_core_check.specs.Signatures.{applies}
 use Rattle.qtt_core_check.specs.declared.refusal.CoreRefusal.{CoreRefusal}
 use Rattle.qtt_core_check.specs.Constructors.{made_shaped}

@@ -1,5 +1,5 @@
 -- The end of the rule of functions, by whether the use of the binder fits; and families that heads are.
-use Rattle.std.proofs.Common.{◌≡◌, ℕ, Bool, true, false, ◌||◌, ◌&&◌, cond, eqb, List, ◌∷◌, length, refl, ap, sym, ◌∙◌, subst}
+use Rattle.std.proofs.Common.{◌≡◌, ℕ, Bool, true, false, ◌||◌, ◌&&◌, cond, eqb, Some, None, List, ◌∷◌, length, refl, ap, sym, ◌∙◌, subst}
 use mathlib.Core.Path.{ap₂}
 use Rattle.std.proofs.lemmas.Bool.{eq-eqb}
 use Rattle.qtt_base.specs.declared.place.GlobalId.{GlobalId}
@@ -8,10 +8,11 @@ use Rattle.qtt_usage.specs.Mult.{fits}
 use Rattle.qtt_term.specs.Term.{Term, Terms, size, Pi, Fam, same_id}
 use Rattle.qtt_term.specs.Signature.{Env}
 use Rattle.qtt_term.specs.Question as question
-use Rattle.qtt_term.specs.Ask.{Ask, Question, Ending, within, on_head}
+use Rattle.qtt_term.specs.Ask.{Question, Ending, within, on_head}
 use Rattle.qtt_term.specs.Judgement.{Ctx, Part}
 use Rattle.qtt_term.specs.Accepted.{is_dead}
 use Rattle.qtt_term.specs.Infer.{Premise, inferred, at, unbound, as_family, family_of}
+use Rattle.qtt_term.specs.Premises.{found}
 use Rattle.qtt_term.specs.declared.rule.Rule.TheVariants as rule
 use Rattle.qtt_core_check.specs.Seen.{Reaches, Fails, fitting, lam_ends}
 use Rattle.qtt_core_check.proofs.Within.{on, on_done, fails_here, holds, unmet}
@@ -48,9 +49,9 @@ pub head-family : {E : Env} {n : ℕ} (Γ : Ctx) (f g : GlobalId) (k : ℕ) (A h
 unfolding within on_head family_of
 head-family {E} {n} Γ f g k A h made ts r e d s z = record {
   is =
-      ap (λ H. on_head H (λ h. within E n (as_family f k h r)) (Ending.spent tt (Question.head_of (length Γ) A)))
-      e ∙ ap (λ h. within E n (as_family f k h r)) d
-      ∙ ap (λ b. within E n (cond b (Ask.done ts) (Ask.fail r))) (ap₂ (λ a b. a && b) s (eq-eqb (size ts) k z));
+      ap (λ H. on_head H (λ h. within E n (found (as_family f k h) r))
+      (Ending.spent tt (Question.head_of (length Γ) A))) e ∙ ap (λ h. within E n (found (as_family f k h) r)) d
+      ∙ ap (λ b. within E n (found (cond b (Some ts) None) r)) (ap₂ (λ a b. a && b) s (eq-eqb (size ts) k z));
 }
 
 pub other-family : {E : Env} {n : ℕ} (Γ : Ctx) (f g : GlobalId) (k : ℕ) (A h : Term) (made : ℕ) (ts : Terms)
@@ -59,7 +60,7 @@ pub other-family : {E : Env} {n : ℕ} (Γ : Ctx) (f g : GlobalId) (k : ℕ) (A 
 unfolding within on_head family_of
 other-family {E} {n} Γ f g k A h made ts r e d s = record {
   is =
-      ap (λ H. on_head H (λ h. within E n (as_family f k h r)) (Ending.spent tt (Question.head_of (length Γ) A)))
-      e ∙ ap (λ h. within E n (as_family f k h r)) d
-      ∙ ap (λ b. within E n (cond b (Ask.done ts) (Ask.fail r))) s;
+      ap (λ H. on_head H (λ h. within E n (found (as_family f k h) r))
+      (Ending.spent tt (Question.head_of (length Γ) A))) e ∙ ap (λ h. within E n (found (as_family f k h) r)) d
+      ∙ ap (λ b. within E n (found (cond b (Some ts) None) r)) s;
 }

@@ -1,5 +1,5 @@
 -- Heads of types that are convertible to a Sort, a function type or a family.
-use Rattle.std.proofs.Common.{◌≡◌, ℕ, Bool, true, false, ◌&&◌, cond, eqb, refl, ◌∙◌, ap, subst}
+use Rattle.std.proofs.Common.{◌≡◌, ℕ, Bool, true, false, ◌&&◌, cond, eqb, Some, None, refl, ◌∙◌, ap, subst}
 use Rattle.std.proofs.lemmas.Bool.{eq-eqb}
 use Rattle.qtt_base.specs.declared.place.GlobalId.{GlobalId}
 use Rattle.qtt_usage.specs.declared.mult.Mult.{Mult}
@@ -8,7 +8,9 @@ use Rattle.qtt_term.specs.Signature.{Env}
 use Rattle.qtt_term.specs.Contraction.{Conv, BodiesClosed}
 use Rattle.qtt_term.specs.Judgement.{Ctx}
 use Rattle.qtt_term.specs.Ask.{Ask, ◌>>=◌, Ending, Ends, HeadIs}
-use Rattle.qtt_term.specs.Infer.{Premise, need, agree, as_sort, sort_of, as_function, function_of, as_family, family_of}
+use Rattle.qtt_term.specs.Infer.{Premise, agree, sort_of, function_of, as_family, family_of}
+use Rattle.qtt_term.specs.Forms.{as_sort, as_function}
+use Rattle.qtt_term.specs.Premises.{need, found}
 use Rattle.qtt_term.proofs.Same.{id-same}
 use Rattle.qtt_confluence.specs.Heads.{IsHead, Outline, outline, parts}
 use Rattle.qtt_confluence.specs.Injective.{Convs}
@@ -25,6 +27,8 @@ no-failure (Ask.done a) k x n s = s a Ends.is_done x
 no-failure (Ask.fail g) k Ends.has_failed n s = n Ends.has_failed
 no-failure (Ask.head p d t g) k (Ends.has_head {h = h} e x) n s =
     no-failure (g h) k x (λ y. n (Ends.has_head e y)) (λ a y z. s a (Ends.has_head e y) z)
+no-failure (Ask.read p d t g) k (Ends.has_reading {r = h} e x) n s =
+    no-failure (g h) k x (λ y. n (Ends.has_reading e y)) (λ a y z. s a (Ends.has_reading e y) z)
 no-failure (Ask.compare p d t r m w) k (Ends.are_equal e x) n s =
     no-failure m k x (λ y. n (Ends.are_equal e y)) (λ a y z. s a (Ends.are_equal e y) z)
 no-failure (Ask.compare p d t r m w) k (Ends.are_different e x) n s =
@@ -34,7 +38,8 @@ pub done-holds : {E : Env} {F P A : Type 0} {f : F} {a : A} →
     Ends E {F = F} {P = P} {A = A} (Ask.done a) (Ending.fails f) → ⊥
 done-holds x = elim x [ ]
 
-pub need-holds : {E : Env} (b : Bool) (p f : Premise) → b ≡ true → Ends E (need b p) (Ending.fails f) → ⊥
+pub need-holds : {E : Env} (b : Bool) (p f : Premise) → b ≡ true →
+    Ends E {P = Unit {0}} (need b p) (Ending.fails f) → ⊥
 unfolding need
 need-holds true p f e x = elim x [ ]
 need-holds false p f e x = absurd (cc e)
@@ -46,7 +51,7 @@ agree-holds bodies Γ t s p f c (Ends.are_equal e x) = elim x [ ]
 agree-holds {E} bodies Γ t s p f c (Ends.are_different e x) = different_is_apart E bodies e.bound t s e.path e.is c
 
 choice-holds : {E : Env} (b : Bool) (p f : Premise) (ts : Terms) → b ≡ true →
-    Ends E {F = Premise} {P = Unit {0}} {A = Terms} (cond b (Ask.done ts) (Ask.fail p)) (Ending.fails f) → ⊥
+    Ends E {F = Premise} {P = Unit {0}} {A = Terms} (found (cond b (Some ts) None) p) (Ending.fails f) → ⊥
 choice-holds true p f ts e x = elim x [ ]
 choice-holds false p f ts e x = absurd (cc e)
 
@@ -93,7 +98,8 @@ module _ (E : Env) (bodies : BodiesClosed E) where
   unfolding sort_of
   sort-holds Γ A l p f c (Ends.has_head {h = h} x y) =
       let (ss, e, s, d) = form-found A h (Form.sort l) ε x (sort-head l) c in
-      done-holds (subst (λ h. Ends E (as_sort h p) (Ending.fails f)) (e ∙ ap (node (Form.sort l)) (no-parts ss s)) y)
+      done-holds (subst (λ h. Ends E {P = Unit {0}} (found (as_sort h) p) (Ending.fails f))
+      (e ∙ ap (node (Form.sort l)) (no-parts ss s)) y)
 
   pub function-holds : (Γ : Ctx) (A : Term) (q : Mult) (B C : Term) (p f : Premise) → Conv E A (Pi q B C) →
       Ends E (function_of Γ A p) (Ending.fails f) → ⊥
@@ -101,7 +107,8 @@ module _ (E : Env) (bodies : BodiesClosed E) where
   function-holds Γ A q B C p f c (Ends.has_head {h = h} x y) =
       let (ss, e, s, d) = form-found A h (Form.pi q) (B ▸ C ▸ ε) x (pi-head q B C) c in
       let (D, G, g) = two-parts ss s in
-      done-holds (subst (λ h. Ends E (as_function h p) (Ending.fails f)) (e ∙ ap (node (Form.pi q)) g) y)
+      done-holds (subst (λ h. Ends E {P = Unit {0}} (found (as_function h) p) (Ending.fails f))
+      (e ∙ ap (node (Form.pi q)) g) y)
 
   pub family-holds : (Γ : Ctx) (A : Term) (g : GlobalId) (n : ℕ) (ts : Terms) (p f : Premise) → Conv E A (Fam g ts) →
       size ts ≡ n →
@@ -111,4 +118,4 @@ module _ (E : Env) (bodies : BodiesClosed E) where
       let (ss, e, s, d) = form-found A h (Form.fam g) ts x (fam-head g ts) c in
       let t : (same_id g g && eqb (size ss) n) ≡ true = rw (id-same g, eq-eqb (size ss) n (s ∙ z)) refl in
       choice-holds (same_id g g && eqb (size ss) n) p f ss t
-      (subst (λ h. Ends E (as_family g n h p) (Ending.fails f)) e y)
+      (subst (λ h. Ends E {P = Unit {0}} (found (as_family g n h) p) (Ending.fails f)) e y)

@@ -1,4 +1,3 @@
-pub mod Endings
 pub mod Parts
 pub mod Lists
 pub mod Derived
@@ -20,12 +19,12 @@ pub mod Answered
 pub mod Inferable
 pub mod InferableCase
 pub mod AcceptedInferred
+pub mod Unread
 pub mod Scopes
 pub mod Within
 pub mod Variables
 pub mod Views
 pub mod Functions
-pub mod Binders
 pub mod Continuing
 pub mod ArgumentLists
 pub mod FormRows

@@ -19,7 +19,7 @@ use Rattle.qtt_term.specs.Question.{same_counts}
 use Rattle.qtt_term.specs.View.{term, terms, branch, branches, side_by_side}
 use Rattle.qtt_term.specs.Accepted.{is_dead}
 use Rattle.qtt_term.specs.Infer.{Premise, field_counts, binders_fit, mults_onto, unbound}
-use Rattle.qtt_core_check.specs.Filled.{tele}
+use Rattle.qtt_term.specs.Telescopes.{tele}
 use Rattle.qtt_core_check.specs.Cases.{shaped, fits_within}
 use Rattle.qtt_core_check.specs.Seen.{Reaches, Fails}
 use Rattle.qtt_core_check.proofs.Within.{on, on_done, fails_here, holds, unmet}

@@ -15,7 +15,8 @@ use Rattle.qtt_term.specs.Contraction.{Conv, BodiesClosed}
 use Rattle.qtt_term.specs.Judgement.{Ctx, InScope, mult_at, IsCon, Part, under, Usable, Judged, scale, erase_binds, Args, ParamsThenArgs, Rule}
 use Rattle.qtt_term.specs.Accepted.{IsSmall, Accepts, AcceptsAll}
 use Rattle.qtt_term.specs.Ask.{Ask, ◌>>=◌, Question, Ending, Ends}
-use Rattle.qtt_term.specs.Infer.{Premise, at, Inferred, inferred, infer, need, is_there, usable, named_there, Wanted, wanted, family_wants, constructor_wants, arguments, constructor_at, rule_of}
+use Rattle.qtt_term.specs.Infer.{Premise, at, Inferred, inferred, infer, is_there, usable, named_there, Wanted, wanted, family_wants, constructor_wants, arguments, constructor_at, rule_of}
+use Rattle.qtt_term.specs.Premises.{need}
 use Rattle.qtt_term.specs.declared.rule.Rule.TheVariants as rule
 use Rattle.qtt_confluence.proofs.Facts.{types_are_injective}
 use Rattle.qtt_preserve.proofs.Inverted.{inverted}
@@ -24,8 +25,9 @@ use Rattle.qtt_core_check.specs.Laws.{Inference, Reports, FailuresAreSo}
 use Rattle.qtt_term.specs.Environment.{ResultsCounted}
 use Rattle.qtt_term.proofs.Options.{some-injective}
 use Rattle.qtt_core_check.proofs.Parts.{head-conv, function-found}
-use Rattle.qtt_core_check.proofs.Arguments.{tele_of, tele_of-wanted, tele_of-append, scale-append}
-use Rattle.qtt_core_check.proofs.Endings.{one-ending}
+use Rattle.qtt_term.proofs.Binders.{scale-append}
+use Rattle.qtt_core_check.proofs.Arguments.{tele_of, tele_of-wanted, tele_of-append}
+use Rattle.qtt_confluence.proofs.Endings.{one-ending}
 use Rattle.qtt_core_check.proofs.OneUse.{of-form, one-accepted}
 use Rattle.qtt_core_check.proofs.Acceptance.{typed-of, accepted-of, zero-when-erased}
 use Rattle.qtt_core_check.proofs.Sound.{derived}
@@ -35,6 +37,7 @@ use Rattle.qtt_core_check.proofs.CleanCase.{cases-shaped, cases-hold}
 
 never-spent : {E : Env} {F P A : Type 0} {m : Ask F P A} {p : P} {q : Question} → Ends E m (Ending.spent p q) → ⊥
 never-spent (Ends.has_head e x) = never-spent x
+never-spent (Ends.has_reading e x) = never-spent x
 never-spent (Ends.are_equal e x) = never-spent x
 never-spent (Ends.are_different e x) = never-spent x
 

@@ -1,5 +1,5 @@
 -- The parts of an ending with an answer, and what each premise that holds says.
-use Rattle.std.proofs.Common.{◌≡◌, ℕ, Bool, true, false, ◌&&◌, cond, eqb, refl, sym, ap, subst}
+use Rattle.std.proofs.Common.{◌≡◌, ℕ, Bool, true, false, ◌&&◌, cond, eqb, Some, None, refl, sym, ap, subst}
 use Rattle.std.proofs.lemmas.Bool.{eqb-true, and_parts}
 use Rattle.qtt_base.specs.declared.place.GlobalId.{GlobalId}
 use Rattle.qtt_term.specs.Term.{Form, Term, Terms, node, ε, ◌▸◌, size, Sort, Pi, Fam, same_id}
@@ -7,7 +7,9 @@ use Rattle.qtt_term.specs.Signature.{Env}
 use Rattle.qtt_term.specs.Contraction.{Reduces, Conv}
 use Rattle.qtt_term.specs.Judgement.{Ctx}
 use Rattle.qtt_term.specs.Ask.{Ask, ◌>>=◌, Ending, Ends, HeadIs}
-use Rattle.qtt_term.specs.Infer.{Premise, need, agree, as_sort, sort_of, Function, as_function, function_of, as_family, family_of}
+use Rattle.qtt_term.specs.Infer.{Premise, agree, sort_of, function_of, as_family, family_of}
+use Rattle.qtt_term.specs.Forms.{as_sort, Function, as_function}
+use Rattle.qtt_term.specs.Premises.{need, found}
 use Rattle.qtt_term.proofs.Same.{same_id-is}
 use Rattle.qtt_confluence.proofs.Facts.{head_is_exact}
 
@@ -23,6 +25,8 @@ parts (Ask.done a) k b x = record { mid = a; first = Ends.is_done; after = x }
 parts (Ask.fail f) k b x = elim x [ ]
 parts (Ask.head p d t g) k b (Ends.has_head {h = h} e x) =
     let r = parts (g h) k b x in record { mid = r.mid; first = Ends.has_head e r.first; after = r.after }
+parts (Ask.read p d t g) k b (Ends.has_reading {r = h} e x) =
+    let r = parts (g h) k b x in record { mid = r.mid; first = Ends.has_reading e r.first; after = r.after }
 parts (Ask.compare p d t s m w) k b (Ends.are_equal e x) =
     let r = parts m k b x in record { mid = r.mid; first = Ends.are_equal e r.first; after = r.after }
 parts (Ask.compare p d t s m w) k b (Ends.are_different e x) =
@@ -35,7 +39,8 @@ pub never : {E : Env} {F P A : Type 0} {f : F} {a : A} → Ends E {F = F} {P = P
 never x = elim x [ ]
 
 -- ---- premises
-pub holding : {E : Env} (b : Bool) (p : Premise) (u : Unit {0}) → Ends E (need b p) (Ending.ok u) → b ≡ true
+pub holding : {E : Env} (b : Bool) (p : Premise) (u : Unit {0}) → Ends E {P = Unit {0}} (need b p) (Ending.ok u) →
+    b ≡ true
 unfolding need
 holding true p u x = refl
 holding false p u x = elim x [ ]
@@ -54,7 +59,8 @@ reduces-conv (Reduces.then h r) = Conv.thence (Conv.by_step h) (reduces-conv r)
 pub head-conv : {E : Env} {t h : Term} → HeadIs E t h → Conv E t h
 head-conv {E} {t} {h} x = reduces-conv (head_is_exact.reduces E x.bound x.made t h x.is)
 
-sort-is : {E : Env} (h : Term) (p : Premise) (l : ℕ) → Ends E (as_sort h p) (Ending.ok l) → h ≡ Sort l
+sort-is : {E : Env} (h : Term) (p : Premise) (l : ℕ) →
+    Ends E {P = Unit {0}} (found (as_sort h) p) (Ending.ok l) → h ≡ Sort l
 sort-is (node (Form.sort k) ε) p l Ends.is_done = refl
 sort-is _ p l x = elim x [ ]
 
@@ -63,7 +69,8 @@ pub sort-found : {E : Env} (Γ : Ctx) (A : Term) (p : Premise) (l : ℕ) → End
 unfolding sort_of
 sort-found {E} Γ A p l (Ends.has_head {h = h} e x) = subst (HeadIs E A) (sort-is h p l x) e
 
-function-is : {E : Env} (h : Term) (p : Premise) (F : Function) → Ends E (as_function h p) (Ending.ok F) →
+function-is : {E : Env} (h : Term) (p : Premise) (F : Function) →
+    Ends E {P = Unit {0}} (found (as_function h) p) (Ending.ok F) →
     h ≡ Pi F.mult F.domain F.codomain
 function-is (node (Form.pi q) (A ▸ B ▸ ε)) p F Ends.is_done = refl
 function-is _ p F x = elim x [ ]
@@ -75,7 +82,7 @@ unfolding function_of
 function-found {E} Γ A p F (Ends.has_head {h = h} e x) = subst (HeadIs E A) (function-is h p F x) e
 
 chosen : {E : Env} (b : Bool) (p : Premise) (ts us : Terms) →
-    Ends E {F = Premise} {P = Unit {0}} (cond b (Ask.done ts) (Ask.fail p)) (Ending.ok us) → (b ≡ true) × (ts ≡ us)
+    Ends E {F = Premise} {P = Unit {0}} (found (cond b (Some ts) None) p) (Ending.ok us) → (b ≡ true) × (ts ≡ us)
 chosen true p ts us Ends.is_done = (refl, refl)
 chosen false p ts us x = elim x [ ]
 
@@ -84,7 +91,7 @@ abbrev pub FamilyIs : GlobalId → ℕ → Terms → Term → Type 0
 FamilyIs f n us h = (h ≡ Fam f us) × (size us ≡ n)
 
 family-is : {E : Env} (f : GlobalId) (n : ℕ) (h : Term) (p : Premise) (us : Terms) →
-    Ends E (as_family f n h p) (Ending.ok us) → FamilyIs f n us h
+    Ends E {P = Unit {0}} (found (as_family f n h) p) (Ending.ok us) → FamilyIs f n us h
 family-is f n (node (Form.fam g) ts) p us x =
     let (e, d) = chosen (same_id f g && eqb (size ts) n) p ts us x in
     let (i, s) = and_parts (same_id f g) (eqb (size ts) n) e in

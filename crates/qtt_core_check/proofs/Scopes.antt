@@ -7,7 +7,7 @@ use Rattle.qtt_term.specs.View.{term}
 use Rattle.qtt_term.specs.Term.{Term}
 use Rattle.qtt_term.specs.Signature.{Tele}
 use Rattle.qtt_term.specs.Judgement.{Ctx, ext}
-use Rattle.qtt_core_check.specs.Filled.{tele}
+use Rattle.qtt_term.specs.Telescopes.{tele}
 use Rattle.qtt_core_check.proofs.Lists.{length-ext}
 
 ext-outer : (Γ : Ctx) (Θ : Tele) (i : ℕ) → length Θ ≤ i → slice_get (ext Γ Θ) i ≡ slice_get Γ (i - length Θ)

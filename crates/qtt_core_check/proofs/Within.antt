@@ -3,8 +3,10 @@ use Rattle.std.proofs.Common.{◌≡◌, ℕ, Bool, true, false, Result, Ok, Err
 use Rattle.qtt_term.specs.Term.{Term}
 use Rattle.qtt_term.specs.Signature.{Env}
 use Rattle.qtt_term.specs.Question as question
+use Rattle.qtt_term.specs.Reading as reading
 use Rattle.qtt_term.specs.Ask.{Ask, ◌>>=◌, Question, Ending, within, on_head, on_answer}
-use Rattle.qtt_term.specs.Infer.{Asks, Premise, need}
+use Rattle.qtt_term.specs.Infer.{Asks, Premise}
+use Rattle.qtt_term.specs.Premises.{need}
 use Rattle.qtt_core_check.specs.declared.refusal.CoreRefusal.{CoreRefusal}
 use Rattle.qtt_core_check.specs.declared.refusal.CoreRefusal.TheVariants as refusal
 use Rattle.qtt_core_check.specs.Seen.{Reaches, Fails, Refuses, Gives}
@@ -37,6 +39,9 @@ within-then E n (Ask.done a) k = refl
 within-then E n (Ask.fail f) k = refl
 within-then E n (Ask.head p d t g) k =
     on_head-onward (question.head E n t) (λ h. within E n (g h)) (λ h. within E n (g h >>= k)) p
+    (Question.head_of d t) (λ a. within E n (k a)) (λ h. within-then E n (g h) k)
+within-then E n (Ask.read p d t g) k =
+    on_head-onward (reading.read E n t) (λ h. within E n (g h)) (λ h. within E n (g h >>= k)) p
     (Question.head_of d t) (λ a. within E n (k a)) (λ h. within-then E n (g h) k)
 within-then E n (Ask.compare p d t s m w) k =
     on_answer-onward (question.compare E n t s) (within E n m) (within E n w) (within E n (m >>= k))

@@ -14,7 +14,7 @@ use Rattle.qtt_term.specs.View.{term}
 use Rattle.qtt_term.specs.Accepted.{is_dead}
 use Rattle.qtt_term.specs.Infer.{at, Asks, Inferred, inferred, agree, family_of, unbound, with_branch, joined_use, field_counts, family_wants, binders_fit, mults_onto, CaseOf, infer}
 use Rattle.qtt_core_check.specs.declared.matching.Matching.{Matching}
-use Rattle.qtt_core_check.specs.Filled.{filled}
+use Rattle.qtt_term.specs.Telescopes.{filled}
 
 -- ---- what the code's matches stand for
 abbrev pub case_of : Matching → CaseOf

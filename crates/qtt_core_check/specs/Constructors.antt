@@ -5,7 +5,7 @@ use Rattle.qtt_term.specs.Judgement.{erase_binds}
 use Rattle.qtt_term.specs.View.{term}
 use Rattle.qtt_term.specs.Infer.{constructor_wants}
 use Rattle.qtt_core_check.specs.declared.named_rows.Made as code
-use Rattle.qtt_core_check.specs.Filled.{tele}
+use Rattle.qtt_term.specs.Telescopes.{tele}
 
 abbrev pub counted : FamSig → ℕ → ℕ → Option ConSig → Bool
 counted S k n None = false

@@ -9,12 +9,12 @@ use Rattle.qtt_term.specs.Contraction.{Conv}
 use Rattle.qtt_term.specs.Judgement.{KeyIn, InScope, Part, Ctx, InRun, Typed}
 use Rattle.qtt_term.specs.Accepted.{is_dead, Accepts}
 use Rattle.qtt_term.specs.Environment.{NoTape}
-use Rattle.qtt_term.specs.Ask.{Question, Ending, Ends, within}
+use Rattle.qtt_term.specs.Ask.{Question, Ending, Ends, within, NoReading}
 use Rattle.qtt_term.specs.Infer.{Premise, Asks, Inferred, infer}
 use Rattle.qtt_core_check.specs.WithUses.{AcceptsUses, HasUses}
 use Rattle.qtt_core_check.specs.Trapless.{NoTrap}
 use Rattle.qtt_core_check.specs.SmallSorts.{SmallSorts}
-use Rattle.qtt_core_check.specs.FirstSpent.{FirstSpent, Says, IsSpent}
+use Rattle.qtt_term.specs.FirstSpent.{FirstSpent, Says, IsSpent}
 
 abbrev pub Inference : Type 0
 Inference = Ending Premise (Unit {0}) Inferred
@@ -33,6 +33,10 @@ OneEnding E = (m : Asks Inferred) (e r : Inference) → Ends E m e → Ends E m 
 abbrev pub LargerBudgetsKeepEndings : Env → Type 0
 LargerBudgetsKeepEndings E = (n k : ℕ) (m : Asks Inferred) → n ≤ k → (IsSpent (within E n m) → ⊥) →
     within E k m ≡ within E n m
+
+-- heads and comparisons alone are asked for
+abbrev pub AsksForNoReading : Env → Type 0
+AsksForNoReading E = (p : Part) (Γ : Ctx) (t : Term) → NoReading (infer E p Γ t)
 
 -- what is inferred for a term is so: its type, and the uses of variables. Lists tell nothing of tapes; a term in
 -- which none stands uses none

@@ -1,5 +1,3 @@
-pub mod FirstSpent
-pub mod Filled
 pub mod Seen
 pub mod Calls
 pub mod Signatures

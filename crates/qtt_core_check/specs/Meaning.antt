@@ -10,7 +10,7 @@ use Rattle.qtt_term.specs.Accepted.{Accepts}
 use Rattle.qtt_term.specs.Ask.{Question}
 use Rattle.qtt_term.specs.Infer.{Inferred, inferred, infer}
 use Rattle.qtt_term.specs.View.{term}
-use Rattle.qtt_core_check.specs.FirstSpent.{FirstSpent}
+use Rattle.qtt_term.specs.FirstSpent.{FirstSpent}
 use Rattle.qtt_core_check.specs.WithUses.{AcceptsUses, HasUses}
 use Rattle.qtt_core_check.specs.Seen.{question, Gives}
 use Rattle.qtt_core_check.specs.declared.refusal.CoreRefusal.{CoreRefusal}

@@ -11,8 +11,9 @@ use Rattle.qtt_term.specs.declared.rule.Rule.TheVariants as rule
 use Rattle.qtt_term.specs.Judgement.{Ctx, ext, Part}
 use Rattle.qtt_term.specs.Ask.{Ask, ◌>>=◌, Question, Ending, within}
 use Rattle.qtt_term.specs.Accepted.{is_dead}
-use Rattle.qtt_term.specs.Infer.{Asks, Premise, at, Function, Inferred, inferred, unbound}
-use Rattle.qtt_core_check.specs.Filled.{tele}
+use Rattle.qtt_term.specs.Infer.{Asks, Premise, at, Inferred, inferred, unbound}
+use Rattle.qtt_term.specs.Forms.{Function}
+use Rattle.qtt_term.specs.Telescopes.{tele}
 use Rattle.qtt_core_check.specs.declared.judged.Judged.{Judged}
 use Rattle.qtt_core_check.specs.declared.premises.FunctionType.{FunctionType}
 use Rattle.qtt_core_check.specs.declared.scope.Scope.{Scope}

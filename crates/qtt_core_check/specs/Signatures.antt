@@ -1,21 +1,17 @@
--- What the code's signatures stand for, and the types of literals.
+-- The types of literals, and what arguments of a signature ask.
 use Rattle.std.specs.Prelude.{List}
 use Rattle.qtt_prims.specs.declared.lit.Lit.{Lit}
 use Rattle.qtt_prims.specs.declared.lit.Lit.TheVariants as literal
-use Rattle.qtt_usage.specs.Mult.{ω}
 use Rattle.qtt_term.specs.View.{term, terms, side_by_side}
 use Rattle.qtt_term.specs.Term.{Term, Terms}
 use Rattle.qtt_term.specs.Substitution.{sub, push, closed}
-use Rattle.qtt_term.specs.Signature.{Tele, Env, Signature, IntTy, StringTy}
+use Rattle.qtt_term.specs.Signature.{Tele, Env, IntTy, StringTy}
 use Rattle.qtt_term.specs.Judgement.{Part, Ctx}
 use Rattle.qtt_term.specs.Ask.{Ask, ◌>>=◌}
 use Rattle.qtt_term.specs.Infer.{Asks, Premise, wanted, Inferred, inferred, arguments}
 use Rattle.qtt_term.specs.declared.term.Term as code_term
-use Rattle.qtt_core_check.specs.declared.signatures.Signature as code
-use Rattle.qtt_core_check.specs.Filled.{tele}
-
-abbrev pub signature : code.Signature → Signature
-signature s = record { arguments = tele s.arguments.items; type = term s.ty; mult = ω }
+use Rattle.qtt_term.specs.declared.signatures.Signature as code
+use Rattle.qtt_term.specs.Telescopes.{tele}
 
 abbrev pub lit_type : Lit → Term
 lit_type (literal.Int z) = IntTy

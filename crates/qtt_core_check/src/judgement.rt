@@ -7,24 +7,23 @@ ghost use Rattle.qtt_term.specs.View.{action, term, terms, branches as branches_
 ghost use Rattle.qtt_term.specs.Contexts.{part};
 ghost use Rattle.qtt_term.specs.Judgement.{Part};
 ghost use Rattle.qtt_term.specs.Infer.{at, wanted, has, type_of, infer, arguments, joined_use};
-ghost use Rattle.qtt_core_check.specs.Filled.{tele, filled};
+ghost use Rattle.qtt_term.specs.Telescopes.{tele, filled};
 ghost use Rattle.qtt_core_check.specs.Seen.{ctx, judged};
 ghost use Rattle.qtt_core_check.specs.Signatures.{applied_to};
 ghost use Rattle.qtt_core_check.specs.TwoLists.{con_parts, act_parts};
 ghost use Rattle.qtt_core_check.specs.Cases.{case_of, motive_of, params_of, branch_asks, branches_ask};
 ghost use Rattle.qtt_core_check.specs.Calls.{Answers, Judges, Counted, env_of};
 
-use crate::filling::fill;
 use crate::judged::Judged;
 use crate::matching::{Matching, with_branch};
 use crate::named_rows::io_end;
 use crate::premises::{Checker, same_mult, under, usable};
 use crate::refusal::CoreRefusal;
 use crate::scope::Scope;
-use crate::signatures::Signature;
-use crate::telescopes::{filled_binders, motive_binders, parameter_binders};
 use qtt_base::GlobalId;
 use qtt_prims::{ActKind, Primitive};
+use qtt_term::signatures::Signature;
+use qtt_term::telescopes::{filled_binders, motive_binders, parameter_binders};
 use qtt_term::{Branch, Case, ConId, Converter, Delete, Rule, Sigma, Term};
 use qtt_usage::mult::Mult;
 use qtt_usage::usage::Usage;
@@ -320,7 +319,7 @@ impl<'a, C: Converter> Checker<'a, C> {
         let mut uses = Usage::zero(self.alloc, depth as usize)?;
         for (place, arg) in args.iter().enumerate() {
             let (mult, ty) = &binders[place];
-            let ty = fill(self.alloc, ty, values)?;
+            let ty = ty.fill(self.alloc, values)?;
             let inside = under(sigma, *mult);
             let mut used = self.has(scope, inside, arg, &ty, premise.0, premise.1)?;
             used.scale(*mult);

@@ -4,6 +4,7 @@ ghost use Rattle.qtt_term.specs.Signature.{Env};
 ghost use Rattle.qtt_term.specs.Contraction.{BodiesClosed};
 ghost use Rattle.qtt_term.specs.Judgement.{Ctx, Part};
 ghost use Rattle.qtt_core_check.specs.Laws.{EndingsAreSo, OneEnding, LargerBudgetsKeepEndings, InferIsSound, AcceptedIsTyped, OneTypeAndUse, FailuresAreSo, AcceptedIsInferred};
+ghost use Rattle.qtt_core_check.specs.Laws.{AsksForNoReading};
 ghost use Rattle.qtt_core_check.specs.Examples.{DeadPartsUseNothing, SortsAreBounded};
 ghost use Rattle.qtt_term.specs.Environment.{ResultsCounted};
 ghost use Rattle.qtt_term.specs.Environment.{WellFormed};
@@ -22,6 +23,11 @@ pub fn one_ending()
 /// A larger budget keeps every ending but a question that is spent.
 pub fn larger_budgets_keep_endings()
     ensures { (E : Env) → LargerBudgetsKeepEndings E }
+{}
+
+/// The judgement asks for heads and comparisons alone, and for no reading of an index.
+pub fn infer_asks_for_no_reading()
+    ensures { (E : Env) → AsksForNoReading E }
 {}
 
 /// What is inferred for a term is so by the rules, dead terms included. Of the environment it

@@ -9,7 +9,8 @@
 //!
 //! What the list answers within a budget is so without one (`laws::endings_are_so`), it has one
 //! ending (`one_ending`), and a larger budget changes only what was spent
-//! (`larger_budgets_keep_endings`). Beside the core judgement stands the one that the checker
+//! (`larger_budgets_keep_endings`). It asks for no reading of an index
+//! (`infer_asks_for_no_reading`). Beside the core judgement stands the one that the checker
 //! accepts by, in which dead terms use nothing: each of its derivations is one of the core
 //! judgement, and it has all of these for terms with Sorts of 32 bits in which, in the run part,
 //! no missing clause stands (`accepted_is_typed`; worked in `dead_parts_use_nothing` and
@@ -21,7 +22,6 @@
 //! A theory: its lemmas may be cited.
 #![tactic(auto)]
 
-mod filling;
 mod inference;
 mod judged;
 mod judgement;
@@ -32,8 +32,6 @@ mod premises;
 mod refusal;
 mod rows;
 mod scope;
-mod signatures;
-mod telescopes;
 
 pub use inference::infer;
 pub use refusal::CoreRefusal;

@@ -10,22 +10,22 @@ ghost use Rattle.qtt_term.specs.Question.{same_counts};
 ghost use Rattle.qtt_term.specs.Items.{family as family_of};
 ghost use Rattle.qtt_term.specs.View.{term, terms, branch as branch_of, branches as branches_of, side_by_side};
 ghost use Rattle.qtt_term.specs.Contexts.{part};
-ghost use Rattle.qtt_term.specs.Infer.{at, need, is_there, usable, unbound, with_branch, joined_use};
-ghost use Rattle.qtt_core_check.specs.Filled.{tele};
+ghost use Rattle.qtt_term.specs.Infer.{at, is_there, usable, unbound, with_branch, joined_use};
+ghost use Rattle.qtt_term.specs.Premises.{need};
+ghost use Rattle.qtt_term.specs.Telescopes.{tele};
 ghost use Rattle.qtt_core_check.specs.Seen.{ctx, judged};
 ghost use Rattle.qtt_core_check.specs.Cases.{case_of, motive_of, params_of, shaped, scrutinee_asks, fit_newest, fits_within};
 ghost use Rattle.qtt_core_check.specs.Calls.{Answers, Counted, env_of};
 ghost use Rattle.qtt_core_check.specs.declared.refusal.CoreRefusal.TheVariants.{Memory};
 
-use crate::filling::fill;
 use crate::judged::Judged;
 use crate::premises::{Checker, sum, usable};
 use crate::refusal::CoreRefusal;
 use crate::rows::is_dead;
 use crate::scope::Scope;
-use crate::telescopes::{branch_type, joined, number, self_type};
 use qtt_base::GlobalId;
 use qtt_term::copying::copy_all;
+use qtt_term::telescopes::{branch_type, joined, number, self_type};
 use qtt_term::{Branch, ConId, Constructor, Converter, Family, Rule, Sigma, Term};
 use qtt_usage::mult::Mult;
 use qtt_usage::usage::Usage;
@@ -220,7 +220,7 @@ impl<'a, C: Converter> Checker<'a, C> {
         let params = copy_all(self.alloc, matching.params)?;
         let values = joined(params, copy_all(self.alloc, indices)?)?;
         let family = self_type(self.alloc, matching.id, matching.family)?;
-        Ok(fill(self.alloc, &family, &values)?)
+        Ok(family.fill(self.alloc, &values)?)
     }
 
     /// The motive at these indices and the scrutinee.

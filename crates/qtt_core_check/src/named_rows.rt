@@ -9,24 +9,24 @@ ghost use Rattle.qtt_term.specs.Signature.{fam_at, prim_signature, act_signature
 ghost use Rattle.qtt_term.specs.Judgement.{erase_binds};
 ghost use Rattle.qtt_term.specs.View.{term, action};
 ghost use Rattle.qtt_term.specs.Contexts.{part};
-ghost use Rattle.qtt_term.specs.Infer.{at, need, is_there, inferred, family_wants};
-ghost use Rattle.qtt_core_check.specs.Filled.{tele, filled};
-ghost use Rattle.qtt_core_check.specs.Signatures.{signature, lit_type};
+ghost use Rattle.qtt_term.specs.Infer.{at, is_there, inferred, family_wants};
+ghost use Rattle.qtt_term.specs.Premises.{need};
+ghost use Rattle.qtt_term.specs.Telescopes.{tele, filled, signature};
+ghost use Rattle.qtt_core_check.specs.Signatures.{lit_type};
 ghost use Rattle.qtt_core_check.specs.Constructors.{made_shaped, IsMade};
 ghost use Rattle.qtt_core_check.specs.TwoLists.{act_shaped};
 ghost use Rattle.qtt_core_check.specs.Seen.{ctx, judged};
 ghost use Rattle.qtt_core_check.specs.Calls.{Answers, Judges, Counted, env_of};
 ghost use Rattle.qtt_core_check.specs.declared.refusal.CoreRefusal.TheVariants.{Memory};
 
-use crate::filling::fill;
 use crate::judged::Judged;
 use crate::premises::{Checker, sum, usable};
 use crate::refusal::CoreRefusal;
 use crate::scope::Scope;
-use crate::signatures::{Signature, action_signature, primitive_signature, type_arguments};
-use crate::telescopes::{copied_binders, family_binders, parameter_binders, result_type};
 use qtt_base::{GlobalId, ModuleId};
 use qtt_prims::{ActKind, Lit, Primitive};
+use qtt_term::signatures::{Signature, action_signature, primitive_signature, type_arguments};
+use qtt_term::telescopes::{copied_binders, family_binders, parameter_binders, result_type};
 use qtt_term::{ConId, Converter, Rule, Sigma, Term};
 use qtt_usage::mult::Mult;
 use qtt_usage::usage::Usage;
@@ -83,7 +83,7 @@ impl<'a, C: Converter> Checker<'a, C> {
         if !usable(sigma, definition.mult) {
             return Err(CoreRefusal::Fails(Rule::Def, 1));
         }
-        let ty = fill(self.alloc, &definition.ty, &[])?;
+        let ty = definition.ty.fill(self.alloc, &[])?;
         self.plain_row(scope, ty)
     }
 
@@ -108,7 +108,7 @@ impl<'a, C: Converter> Checker<'a, C> {
         ensures len { IfOk result (λ j. length j.uses ≡ length uses) }
     {
         Ok(Judged {
-            ty: fill(self.alloc, ty, values)?,
+            ty: ty.fill(self.alloc, values)?,
             uses,
         })
     }

@@ -94,13 +94,14 @@ fn erased(
         Term::Def(id) => Ok(Lean::Def(*id)),
         Term::Lit(lit) => Ok(Lean::Lit(lit.copy()?)),
         Term::Prim(prim, args) => {
-            let args = erased_args(alloc, env, scope, prim_mults(*prim), args, Vec::new(alloc))?;
+            let mults = prim_mults(alloc, *prim)?;
+            let args = erased_args(alloc, env, scope, &mults, args, Vec::new(alloc))?;
             Ok(Lean::Prim(*prim, args))
         }
         Term::Act(kind, types, args) => {
-            let mults = act_mults(*kind);
-            let kept = erased_args(alloc, env, scope, mults, types, Vec::new(alloc))?;
-            let kept = erased_args(alloc, env, scope, from(mults, types.len()), args, kept)?;
+            let mults = act_mults(alloc, *kind)?;
+            let kept = erased_args(alloc, env, scope, &mults, types, Vec::new(alloc))?;
+            let kept = erased_args(alloc, env, scope, from(&mults, types.len()), args, kept)?;
             Ok(Lean::Act(*kind, kept))
         }
         Term::Trap(_) => Ok(Lean::Trap),

@@ -3,7 +3,8 @@
 ghost use Rattle.std.specs.Prelude.{◌≡◌, ◌≤◌, IfOk, map};
 ghost use Rattle.qtt_term.specs.Signature.{prim_signature, act_signature, family_at};
 ghost use Rattle.qtt_term.specs.Value.{mults, field_mults as mults_of_fields};
-ghost use Rattle.qtt_term.specs.View.{action, term};
+ghost use Rattle.qtt_term.specs.View.{action};
+ghost use Rattle.qtt_term.specs.Telescopes.{tele};
 ghost use Rattle.qtt_term.specs.Items.{constructor};
 ghost use Rattle.qtt_term.specs.Globals.{env as env_of};
 ghost use Rattle.qtt_erase.specs.Erasure.{field_slots, places as places_of};
@@ -14,34 +15,24 @@ use qtt_prims::{ActKind, Primitive};
 use qtt_term::Term;
 use qtt_term::globals::Globals;
 use qtt_term::items::Constructor;
+use qtt_term::signatures::{action_signature, primitive_signature};
 use qtt_usage::mult::Mult;
 use std::alloc::Global;
 
 /// Of a primitive's arguments.
-pub fn prim_mults(prim: Primitive) -> &'static [Mult]
-    ensures { result.now ≡ mults (prim_signature prim).arguments }
+pub fn prim_mults(alloc: Global, prim: Primitive) -> Result<Vec<Mult>, MemoryError>
+    ensures { IfOk result (λ v. v.items ≡ mults (prim_signature prim).arguments) }
 {
-    match prim {
-        Primitive::ShowInt => &[Mult::Many],
-        _ => &[Mult::Many, Mult::Many],
-    }
+    let signature = primitive_signature(alloc, prim)?;
+    tele_mults(alloc, &signature.arguments)
 }
 
 /// Of an action's type arguments and arguments.
-pub fn act_mults(kind: ActKind) -> &'static [Mult]
-    ensures { result.now ≡ mults (act_signature (action kind)).arguments }
+pub fn act_mults(alloc: Global, kind: ActKind) -> Result<Vec<Mult>, MemoryError>
+    ensures { IfOk result (λ v. v.items ≡ mults (act_signature (action kind)).arguments) }
 {
-    match kind {
-        ActKind::Pure => &[Mult::Zero, Mult::Many],
-        ActKind::Pure1 => &[Mult::Zero, Mult::One],
-        ActKind::PutLine | ActKind::Open => &[Mult::Many],
-        ActKind::GetLine => &[],
-        ActKind::Write => &[Mult::One, Mult::Many],
-        ActKind::Close => &[Mult::One],
-        ActKind::BindIoIo | ActKind::BindIoIo1 | ActKind::BindIo1Io | ActKind::BindIo1Io1 => {
-            &[Mult::Zero, Mult::Zero, Mult::One, Mult::One]
-        }
-    }
+    let signature = action_signature(alloc, kind)?;
+    tele_mults(alloc, &signature.arguments)
 }
 
 /// Of a constructor's fields; none for a constructor that is not there.
@@ -78,7 +69,7 @@ fn constructor_mults(
 
 #[tactic(auto, using(crate::proofs::Fields::found_fields))]
 fn tele_mults(alloc: Global, fields: &[(Mult, Term)]) -> Result<Vec<Mult>, MemoryError>
-    ensures { IfOk result (λ v. v.items ≡ mults (map (λ f. (f.0, term f.1)) fields.now)) }
+    ensures { IfOk result (λ v. v.items ≡ mults (tele fields.now)) }
 {
     let mut mults = Vec::with_capacity(alloc, fields.len())?;
     for field in fields {

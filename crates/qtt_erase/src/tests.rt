@@ -128,8 +128,8 @@ fn multiplicities_are_found(rt: HostRuntime) -> Result<(), Fail> {
         field_mults(alloc, &globals, prim_item(5), 1)?.as_slice(),
         [Mult::Many].as_slice()
     );
-    assert_eq!(rt; prim_mults(Primitive::ShowInt).len(), 1);
-    assert_eq!(rt; act_mults(ActKind::Write).len(), 2);
+    assert_eq!(rt; prim_mults(alloc, Primitive::ShowInt)?.len(), 1);
+    assert_eq!(rt; act_mults(alloc, ActKind::Write)?.len(), 2);
     let scope = Scope::Bound(&Scope::Empty, argument_slot(Mult::Zero));
     let scope = Scope::Bound(&scope, field_slot(Mult::Many, Mult::One));
     assert_eq!(rt; scope.slot(0), Slot::Filled);

@@ -12,9 +12,9 @@ use Rattle.qtt_term.specs.Judgement.{Part, Typed, IsType}
 use Rattle.qtt_term.specs.Environment.{IsTape, NoTape, NoTapes}
 use Rattle.qtt_term.specs.Ask.{Ending, Ends, within}
 use Rattle.qtt_term.specs.Infer.{Premise, Asks, Inferred, at, has, type_of, infer, agree}
-use Rattle.qtt_core_check.specs.FirstSpent.{Says}
+use Rattle.qtt_term.specs.FirstSpent.{Says}
 use Rattle.qtt_term.specs.Environment.{ResultsCounted}
-use Rattle.qtt_core_check.proofs.Endings.{says}
+use Rattle.qtt_confluence.proofs.Endings.{says}
 use Rattle.qtt_core_check.proofs.Parts.{parts, agreeing, head-conv, sort-found}
 use Rattle.qtt_core_check.proofs.Sound.{sound}
 

@@ -17,7 +17,8 @@ use Rattle.qtt_term.specs.FullRun.{pure_unit}
 use Rattle.qtt_term.specs.Positivity.{Good}
 use Rattle.qtt_term.specs.Environment.{Types, TypesBeside, TypesUpTo, ConstructorFormed, ConstructorsFormed, FamilyFormed}
 use Rattle.qtt_term.specs.Ask.{◌>>=◌, on_head, on_answer, within}
-use Rattle.qtt_term.specs.Infer.{need, agree, sort_of, function_of, family_of, unbound}
+use Rattle.qtt_term.specs.Infer.{agree, sort_of, function_of, family_of, unbound}
+use Rattle.qtt_term.specs.Premises.{need}
 use Rattle.qtt_term.specs.Programs.{item, program, listed, many, io_unit, put, shown, added, bound, then_do, with_handle, opened_a, written, closed_after, box, one_by_zero, no_of_false, hello, identity, loops, forever, partial_no, handles, trapping, echo, shows, boxed, deletes}
 use Rattle.qtt_programs.specs.Programs.{IsRunnable, tree, tree_family, same_family, choice, least_by_minus_one, greatest_and_one, two_lines, two_lines_items, doubling, doubling_items, counting, counting_items, false_proof, false_proof_items, closing_later, closing_later_items, overlapping, overlapping_items, deleting_type, deleting_body}
 use Rattle.qtt_programs.specs.Worked.{WorkedPrograms, FurtherRuns}

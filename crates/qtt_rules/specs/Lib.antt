@@ -1,3 +1,6 @@
 pub mod Kinds
 pub mod Refusal
 pub mod View
+pub mod Asks
+pub mod Judged
+pub mod Report

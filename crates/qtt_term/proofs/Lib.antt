@@ -26,3 +26,6 @@ pub mod InShape
 pub mod Tests
 pub mod Shaped
 pub mod EnvironmentShape
+pub mod Reading
+pub mod Binders
+pub mod ReadingRows

@@ -14,6 +14,7 @@ use Rattle.qtt_term.specs.Keyed.{with_id, inserted, ids_differ}
 use Rattle.qtt_term.specs.Items.{FamilyEntry, DefinitionEntry, family_entry, constructor_entry, family_id, definition_id, constructor_of, ids, results_counted}
 use Rattle.qtt_term.specs.PrimItems.{unit_entry, bool_entry, line_entry, eq_entry, prim_families}
 use Rattle.qtt_term.specs.Globals.{families, definitions, env, IsNew}
+use Rattle.qtt_term.specs.Entries.{EntriesAreTheEnvironment}
 
 absent_in : List FamilyEntry → List DefinitionEntry → GlobalId → Bool
 absent_in Fs ds id = is_none (with_id family_id id Fs) &&
@@ -65,21 +66,27 @@ first_is E f o r h = by_test (same_id E.id f) ∙ ap (λ b. cond b (Some E.famil
     by_test false = h
 
 -- they are the environment of Prim
+prim-at : (f : GlobalId) → option_map (λ e. e.family) (with_id family_id f prim_families) ≡ prim_family f
+prim-at f =
+    first_is unit_entry f (with_id family_id f (bool_entry ∷ line_entry ∷ eq_entry ∷ []))
+    (cond (same_id f bool_id) (Some bool_family)
+    (cond (same_id f line_id) (Some line_family) (cond (same_id f eq_id) (Some eq_family) None)))
+    (first_is bool_entry f (with_id family_id f (line_entry ∷ eq_entry ∷ []))
+    (cond (same_id f line_id) (Some line_family) (cond (same_id f eq_id) (Some eq_family) None))
+    (first_is line_entry f (with_id family_id f (eq_entry ∷ []))
+    (cond (same_id f eq_id) (Some eq_family) None) (first_is eq_entry f None None refl)))
+
 pub prim_is : (g : Globals) → families g ≡ prim_families → definitions g ≡ [] → env g ≡ prim_env
 prim_is g fs ds =
     ap₂ (λ a b. record { family = a; definition = b })
-    (fun_ext λ f. ap (λ Fs. option_map (λ e. e.family) (with_id family_id f Fs)) fs ∙ at f)
+    (fun_ext λ f. ap (λ Fs. option_map (λ e. e.family) (with_id family_id f Fs)) fs ∙ prim-at f)
     (fun_ext λ d. ap (λ xs. option_map (λ e. e.definition) (with_id definition_id d xs)) ds)
-  where
-    at : (f : GlobalId) → option_map (λ e. e.family) (with_id family_id f prim_families) ≡ prim_family f
-    at f =
-        first_is unit_entry f (with_id family_id f (bool_entry ∷ line_entry ∷ eq_entry ∷ []))
-        (cond (same_id f bool_id) (Some bool_family)
-        (cond (same_id f line_id) (Some line_family) (cond (same_id f eq_id) (Some eq_family) None)))
-        (first_is bool_entry f (with_id family_id f (line_entry ∷ eq_entry ∷ []))
-        (cond (same_id f line_id) (Some line_family) (cond (same_id f eq_id) (Some eq_family) None))
-        (first_is line_entry f (with_id family_id f (eq_entry ∷ []))
-        (cond (same_id f eq_id) (Some eq_family) None) (first_is eq_entry f None None refl)))
+
+pub entries-are_the_environment : EntriesAreTheEnvironment
+entries-are_the_environment = record {
+  of_code = λ g. refl;
+  prim = ap (λ a. record { family = a; definition = λ d. None }) (fun_ext prim-at);
+}
 
 pub three_in : (f0 f1 f2 f3 : List FamilyEntry) (U B L : FamilyEntry) → f0 ≡ [] → f1 ≡ inserted family_id U f0 →
     U ≡ unit_entry → f2 ≡ inserted family_id B f1 → B ≡ bool_entry →

@@ -8,7 +8,8 @@ use Rattle.qtt_term.specs.Term.{var}
 use Rattle.qtt_term.specs.Question.{Answer, compare, same_form}
 use Rattle.qtt_term.specs.Programs.{naturals}
 use Rattle.qtt_term.specs.Ask.{◌>>=◌, on_head, on_answer, within}
-use Rattle.qtt_term.specs.Infer.{need, agree, sort_of, function_of, family_of, unbound}
+use Rattle.qtt_term.specs.Infer.{agree, sort_of, function_of, family_of, unbound}
+use Rattle.qtt_term.specs.Premises.{need}
 use Rattle.qtt_term.specs.Rows.{RunRows, QuestionRows, JudgementRows, sum_with_zero, equals_sum}
 
 pub run_rows_hold : RunRows

@@ -6,7 +6,8 @@ use lib.Utf8.{encode}
 use Rattle.qtt_term.specs.Contraction.{contract}
 use Rattle.qtt_term.specs.Question.{same_form}
 use Rattle.qtt_term.specs.Ask.{◌>>=◌, on_head, on_answer, within}
-use Rattle.qtt_term.specs.Infer.{need, agree, sort_of, function_of, family_of, unbound}
+use Rattle.qtt_term.specs.Infer.{agree, sort_of, function_of, family_of, unbound}
+use Rattle.qtt_term.specs.Premises.{need}
 use Rattle.qtt_term.specs.VectorRows.{VectorRows}
 
 pub vector_rows_hold : VectorRows

@@ -14,6 +14,9 @@ use Rattle.qtt_term.specs.Question.{same_counts}
 use Rattle.qtt_term.specs.Judgement.{Ctx, Part, mult_at, type_at, ext, sub_binds, scale, erase_binds, under, branch_type}
 use Rattle.qtt_term.specs.Accepted.{is_dead}
 use Rattle.qtt_term.specs.Ask.{Ask, ◌>>=◌}
+use Rattle.qtt_term.specs.Forms.{as_sort, Function, as_function}
+use Rattle.qtt_term.specs.Premises.{need, head_as}
+use Rattle.qtt_term.specs.Premises as premises
 use Rattle.qtt_term.specs.declared.rule.Rule.{Rule}
 use Rattle.qtt_term.specs.declared.rule.Rule.TheVariants as rule
 
@@ -37,43 +40,26 @@ abbrev pub inferred : Term → List Mult → Inferred
 inferred A u = record { type = A; uses = u }
 
 -- ---- premises
-unfoldable pub need : Bool → Premise → Asks (Unit {0})
-need true p = Ask.done tt
-need false p = Ask.fail p
-
 -- what was found compares Equal to what is wanted
 unfoldable pub agree : Ctx → Term → Term → Premise → Asks (Unit {0})
-agree Γ found wanted p = Ask.compare tt (length Γ) found wanted (Ask.done tt) (Ask.fail p)
-
-abbrev pub as_sort : Term → Premise → Asks ℕ
-as_sort (Sort l) p = Ask.done l
-as_sort _ p = Ask.fail p
+agree Γ found wanted p = premises.agree tt (length Γ) found wanted p
 
 -- the head of a type is a Sort
 unfoldable pub sort_of : Ctx → Term → Premise → Asks ℕ
-sort_of Γ A p = Ask.head tt (length Γ) A (λ h. as_sort h p)
-
-pub record Function : Type 0 where
-  pub mult : Mult
-  pub domain : Term
-  pub codomain : Term
-
-abbrev pub as_function : Term → Premise → Asks Function
-as_function (Pi q A B) p = Ask.done (record { mult = q; domain = A; codomain = B })
-as_function _ p = Ask.fail p
+sort_of Γ A p = head_as as_sort tt (length Γ) A p
 
 -- the head of a type is a function type
 unfoldable pub function_of : Ctx → Term → Premise → Asks Function
-function_of Γ A p = Ask.head tt (length Γ) A (λ h. as_function h p)
+function_of Γ A p = head_as as_function tt (length Γ) A p
 
 -- a family of this id with so many components
-abbrev pub as_family : GlobalId → ℕ → Term → Premise → Asks Terms
-as_family f n (node (Form.fam g) ts) p = cond (same_id f g && eqb (size ts) n) (Ask.done ts) (Ask.fail p)
-as_family f n _ p = Ask.fail p
+abbrev pub as_family : GlobalId → ℕ → Term → Option Terms
+as_family f n (node (Form.fam g) ts) = cond (same_id f g && eqb (size ts) n) (Some ts) None
+as_family f n _ = None
 
 -- the head of a type is this family, and its components
 unfoldable pub family_of : Ctx → GlobalId → ℕ → Term → Premise → Asks Terms
-family_of Γ f n A p = Ask.head tt (length Γ) A (λ h. as_family f n h p)
+family_of Γ f n A p = head_as (as_family f n) tt (length Γ) A p
 
 -- ---- tests
 abbrev pub is_there : {A : Type 0} → Option A → Bool

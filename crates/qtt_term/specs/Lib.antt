@@ -17,9 +17,14 @@ pub mod Programs
 pub mod Rows
 pub mod Vectors
 pub mod VectorRows
+pub mod ReadingRows
 pub mod PositivityRows
 pub mod EchoRows
+pub mod Reading
 pub mod Ask
+pub mod FirstSpent
+pub mod Forms
+pub mod Premises
 pub mod Accepted
 pub mod Infer
 pub mod Shift
@@ -31,6 +36,9 @@ pub mod Keyed
 pub mod Places
 pub mod PrimItems
 pub mod Growth
+pub mod Entries
+pub mod Scope
+pub mod Telescopes
 pub mod Literals
 pub mod Each
 pub mod Shape

@@ -3,6 +3,7 @@
 
 ghost use Rattle.qtt_term.specs.Rows.{RunRows, QuestionRows, JudgementRows};
 ghost use Rattle.qtt_term.specs.VectorRows.{VectorRows};
+ghost use Rattle.qtt_term.specs.ReadingRows.{ReadingRows};
 ghost use Rattle.qtt_term.specs.PositivityRows.{PositivityRows};
 ghost use Rattle.qtt_term.specs.EchoRows.{EchoRows};
 ghost use Rattle.qtt_term.specs.Environment.{WellFormed, Complete};
@@ -16,6 +17,11 @@ pub fn runs_as_worked()
 /// Heads and questions at their exact counts.
 pub fn questions_as_worked()
     ensures { QuestionRows }
+{}
+
+/// Readings of indices at their exact counts, and plain families.
+pub fn readings_as_worked()
+    ensures { ReadingRows }
 {}
 
 /// Types, uses, false premises and spent questions of small terms.

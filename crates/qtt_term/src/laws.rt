@@ -1,6 +1,7 @@
 //! Laws of the definitions. Each function does nothing: its contract is the law.
 
 ghost use Rattle.qtt_term.specs.Growth.{EnvironmentsGrow, GlobalsKeepTheirFacts};
+ghost use Rattle.qtt_term.specs.Entries.{EntriesAreTheEnvironment};
 ghost use Rattle.qtt_term.specs.Shape.{ShapeLaws, CasesLaws};
 ghost use Rattle.qtt_term.specs.Literals.{StepsKeepRange};
 ghost use Rattle.qtt_term.specs.Laws.{SubstitutionLaws, ValuesAreKept, FullStepsContract, StepsKeepClosed, TapesAreOfEvents};
@@ -34,6 +35,12 @@ pub fn tapes_are_of_events()
 /// An environment that grows has its new items at their ids, and the others as before.
 pub fn environments_grow()
     ensures { EnvironmentsGrow }
+{}
+
+/// The environment that a list of entries makes up is the one that the code's environment of
+/// these entries stands for.
+pub fn entries_are_the_environment()
+    ensures { EntriesAreTheEnvironment }
 {}
 
 /// No contraction brings in a literal that is out of the range of 64 bits.

@@ -13,8 +13,13 @@
 //! contraction brings a free variable into a term where bodies are closed
 //! (`steps_keep_closed`), nor a literal out of range where none is in the bodies
 //! (`steps_keep_range`); the tapes of a run are those of its events (`tapes_are_of_events`);
-//! environments grow by their ids (`environments_grow`). `examples`: worked runs, questions and
-//! judgements, and that Prim is well formed and complete.
+//! environments grow by their ids (`environments_grow`), and are those that their entries make
+//! up (`entries_are_the_environment`). `examples`: worked runs, questions, readings of indices
+//! and judgements, and that Prim is well formed and complete.
+//!
+//! `signatures` and `telescopes` are the table of signatures, and what families and constructors
+//! ask, as code. `specs/Ask` is what every judgement is a table of: a list of questions, whose
+//! premises `specs/Premises` writes once.
 //!
 //! A theory: its lemmas may be cited.
 #![tactic(auto)]
@@ -36,7 +41,9 @@ mod prim_items;
 pub mod rule;
 pub mod shape;
 pub mod shifting;
+pub mod signatures;
 pub mod substitution;
+pub mod telescopes;
 pub mod term;
 
 pub use context::{Ctx, Sigma};

@@ -1,7 +1,13 @@
 //! Each public call once.
 
 use qtt_base::{GlobalId, ModuleId, Name};
-use qtt_term::{Ctx, Globals, Term};
+use qtt_prims::{ActKind, Primitive};
+use qtt_term::signatures::{action_signature, primitive_signature, type_arguments};
+use qtt_term::telescopes::{
+    branch_type, copied_binders, family_binders, filled_binders, joined, motive_binders, number,
+    parameter_binders, result_type, self_type,
+};
+use qtt_term::{ConId, Ctx, Globals, Term};
 use qtt_usage::mult::Mult;
 use std::test::Fail;
 
@@ -102,5 +108,54 @@ fn conditions_have_their_tests(rt: HostRuntime) -> Result<(), Fail> {
     assert!(rt; context.is_in_shape(&globals));
     assert!(rt; globals.is_in_shape());
     assert!(rt; !globals.part(alloc, ModuleId(1))?.is_in_shape());
+    Ok(())
+}
+
+#[test]
+fn signatures_are_made(rt: HostRuntime) -> Result<(), Fail> {
+    let alloc = rt.alloc();
+    let shows = primitive_signature(alloc, Primitive::ShowInt)?;
+    assert_eq!(rt; shows.arguments.len(), 1);
+    assert!(rt; shows.ty.same(&Term::StringTy));
+    let binds = action_signature(alloc, ActKind::BindIoIo1)?;
+    assert_eq!(rt; binds.arguments.len(), 4);
+    assert_eq!(rt; type_arguments(ActKind::BindIoIo1), 2);
+    assert_eq!(rt; type_arguments(ActKind::Close), 0);
+    Ok(())
+}
+
+#[test]
+fn telescopes_of_families_are_made(rt: HostRuntime) -> Result<(), Fail> {
+    let alloc = rt.alloc();
+    let globals = Globals::prim(alloc)?;
+    let id = GlobalId {
+        module: ModuleId(0),
+        item: 13,
+    };
+    let family = match globals.family(id) {
+        Some(family) => family,
+        None => return Err(Fail::from("no family of equalities")),
+    };
+    let reflexivity = &family.constructors[0];
+    let params = vec![in alloc; Term::IntTy, Term::Sort(7)]?;
+    let parameters = parameter_binders(alloc, family)?;
+    assert_eq!(rt; parameters.len(), 2);
+    assert_eq!(rt; family_binders(alloc, family)?.len(), 3);
+    assert_eq!(rt; motive_binders(alloc, id, family, &params)?.len(), 2);
+    assert_eq!(rt; copied_binders(alloc, &parameters)?.len(), 2);
+    let filled = filled_binders(alloc, Mult::One, &parameters, &[])?;
+    assert!(rt; filled[1].1.same(&Term::Var(0)));
+    let own = vec![in alloc; Term::Var(2), Term::Var(1), Term::Var(0)]?;
+    assert!(rt; self_type(alloc, id, family)?.same(&Term::Fam(id, own)));
+    let result = vec![in alloc; Term::Var(1), Term::Var(0), Term::Var(0)]?;
+    assert!(rt; result_type(alloc, id, 2, reflexivity)?.same(&Term::Fam(id, result)));
+    let con = ConId {
+        family: id,
+        place: 0,
+    };
+    let branch = branch_type(alloc, con, 2, reflexivity, &params, &Term::Var(1))?;
+    assert!(rt; branch.same(&Term::Sort(7)));
+    assert_eq!(rt; joined(params, Vec::new(alloc))?.len(), 2);
+    assert_eq!(rt; number(5)?, 5);
     Ok(())
 }

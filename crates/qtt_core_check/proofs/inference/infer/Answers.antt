@@ -5,7 +5,7 @@ use Rattle.qtt_term.specs.Globals.{env}
 use Rattle.qtt_term.specs.Contexts.{part, variables}
 use Rattle.qtt_term.specs.Infer.{infer}
 use Rattle.qtt_term.proofs.Kept.{globals-closed, globals-counted}
-use Rattle.qtt_core_check.specs.Filled.{tele}
+use Rattle.qtt_term.specs.Telescopes.{tele}
 use Rattle.qtt_core_check.specs.Meaning.{typed_as}
 use Rattle.qtt_core_check.specs.Seen.{Reaches, Refuses, judged}
 use Rattle.qtt_core_check.proofs.Within.{passed}

@@ -1,4 +1,4 @@
-use Rattle.qtt_core_check.proofs.Endings.{says, is-spent}
+use Rattle.qtt_confluence.proofs.Endings.{says, is-spent}
 use Rattle.qtt_core_check.proofs.laws.endings_are_so.Goals as goal
 
 pub returns : goal.returns

@@ -1,4 +1,4 @@
-use Rattle.qtt_core_check.proofs.Endings.{one-ending}
+use Rattle.qtt_confluence.proofs.Endings.{one-ending}
 use Rattle.qtt_core_check.proofs.laws.one_ending.Goals as goal
 
 pub returns : goal.returns

@@ -2,7 +2,7 @@ use Rattle.std.proofs.Common.{◌-◌, [], length, ap, refl, rules, arith}
 use mathlib.Core.Path.{ap₂}
 use Rattle.std.proofs.lemmas.List.{length-drop, take_all}
 use Rattle.qtt_term.specs.Infer.{binders_fit, mults_onto}
-use Rattle.qtt_core_check.specs.Filled.{tele}
+use Rattle.qtt_term.specs.Telescopes.{tele}
 use Rattle.qtt_core_check.proofs.Matches.{fit-next, fit-all}
 use Rattle.qtt_core_check.proofs.matching.fit_binders.Goals as goal
 

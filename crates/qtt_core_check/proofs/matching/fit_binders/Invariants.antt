@@ -1,6 +1,6 @@
 use Rattle.std.proofs.Common.{◌≡◌, ◌-◌, ◌&&◌, [], take, drop, length}
 use Rattle.qtt_term.specs.Infer.{binders_fit, mults_onto}
-use Rattle.qtt_core_check.specs.Filled.{tele}
+use Rattle.qtt_term.specs.Telescopes.{tele}
 use Rattle.qtt_core_check.proofs.matching.fit_binders.Given as goal
 
 abbrev pub invariant-loop-place : goal.invariant-loop-place

@@ -30,7 +30,7 @@ erased-returns-in_ok-kept-in-Act-2 n c =
       arith,
       erasures,
       e,
-      c.act_mults-mults.ensures,
+      c.in_ok-mults-in-Act.ensures,
       c.in_ok-kept-in-Act.ensures,
       c.in_ok-kept-in-Act-2.ensures,
       c.in-Act.is,

@@ -10,11 +10,11 @@ use Rattle.qtt_term.specs.Globals.{env}
 use Rattle.qtt_term.specs.Items.{family, constructor}
 use Rattle.qtt_term.specs.View.{action, io, term, terms, case, delete, branch, branches, side_by_side}
 use Rattle.qtt_term.specs.Infer.{at, inferred, infer}
-use Rattle.qtt_core_check.specs.Filled.{tele, filled}
+use Rattle.qtt_term.specs.Telescopes.{tele, filled}
 use Rattle.qtt_core_check.specs.Cases.{case_of, params_of, motive_of, branches_ask, scrutinee_asks}
 use Rattle.qtt_core_check.specs.Seen.{ctx, judged, Reaches, Refuses, Gives}
 use Rattle.qtt_core_check.specs.TwoLists.{con_parts, act_parts}
-use Rattle.qtt_core_check.proofs.Binders.{if-ok}
+use Rattle.qtt_term.proofs.Binders.{if-ok}
 use Rattle.qtt_core_check.proofs.Within.{on, on_done, fails_here, fails_later, holds, unmet, here, later, passed, reached, tail}
 use Rattle.qtt_core_check.proofs.Continuing.{finished}
 use Rattle.qtt_core_check.proofs.ArgumentLists.{filled-more, args-none, args-step, args-stop, args-all, values-step}

@@ -4,7 +4,7 @@ use Rattle.qtt_term.specs.View.{terms, branches}
 use Rattle.qtt_term.specs.Globals.{env}
 use Rattle.qtt_term.specs.Contexts.{part}
 use Rattle.qtt_term.specs.Infer.{at}
-use Rattle.qtt_core_check.specs.Filled.{filled}
+use Rattle.qtt_term.specs.Telescopes.{filled}
 use Rattle.qtt_core_check.specs.Cases.{case_of, params_of, motive_of}
 use Rattle.qtt_core_check.specs.Seen.{ctx}
 use Rattle.qtt_core_check.proofs.ArgumentLists.{SoFar}

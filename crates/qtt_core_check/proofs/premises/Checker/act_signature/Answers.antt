@@ -3,7 +3,7 @@ use Rattle.std.proofs.lemmas.Bool.{eq-eqb, eqb-true, and_parts, and_from}
 use Rattle.qtt_term.specs.Term.{Action}
 use Rattle.qtt_term.specs.View.{action}
 use Rattle.qtt_term.specs.Signature.{act_signature, type_arguments}
-use Rattle.qtt_core_check.specs.Signatures.{signature}
+use Rattle.qtt_term.specs.Telescopes.{signature}
 use Rattle.qtt_core_check.specs.TwoLists.{act_shaped}
 use Rattle.qtt_core_check.proofs.Scopes.{length-tele}
 use Rattle.qtt_core_check.proofs.Within.{holds, unmet}

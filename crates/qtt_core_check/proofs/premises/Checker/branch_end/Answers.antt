@@ -2,7 +2,7 @@ use Rattle.std.proofs.Common.{◌∙◌, sym, ap, rules, arith, length}
 use Rattle.std.proofs.lemmas.List.{length-drop}
 use Rattle.qtt_term.specs.Contexts.{part}
 use Rattle.qtt_term.specs.View.{term}
-use Rattle.qtt_core_check.specs.Filled.{tele}
+use Rattle.qtt_term.specs.Telescopes.{tele}
 use Rattle.qtt_core_check.specs.Cases.{fits_within}
 use Rattle.qtt_core_check.proofs.Scopes.{length-tele}
 use Rattle.qtt_core_check.proofs.Within.{reached}

@@ -9,7 +9,7 @@ use Rattle.qtt_term.specs.Judgement.{erase_binds}
 use Rattle.qtt_term.specs.Items.{family, constructor, field}
 use Rattle.qtt_term.specs.View.{term}
 use Rattle.qtt_preserve.proofs.Travel.{length-scale}
-use Rattle.qtt_core_check.specs.Filled.{tele}
+use Rattle.qtt_term.specs.Telescopes.{tele}
 use Rattle.qtt_core_check.proofs.Scopes.{length-tele}
 use Rattle.qtt_core_check.proofs.Families.{found-family, sig-there, con-missing-family, con-past, con-uncounted, con-counted}
 use Rattle.qtt_core_check.proofs.Places.{constructor-at, constructor-past, length-params}

@@ -3,7 +3,7 @@ use Rattle.qtt_term.specs.Globals.{env}
 use Rattle.qtt_term.specs.Signature.{index_binders}
 use Rattle.qtt_term.specs.Judgement.{erase_binds}
 use Rattle.qtt_term.specs.Items.{family}
-use Rattle.qtt_core_check.specs.Filled.{tele}
+use Rattle.qtt_term.specs.Telescopes.{tele}
 use Rattle.qtt_term.specs.Term.{Sort}
 use Rattle.qtt_core_check.proofs.Views.{sort-seen}
 use Rattle.qtt_core_check.proofs.Families.{found-family, fam-missing, fam-uncounted, fam-counted}

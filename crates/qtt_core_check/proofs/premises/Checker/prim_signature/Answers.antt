@@ -1,7 +1,7 @@
 use Rattle.std.proofs.Common.{◌≡◌, ◌≢◌, ◌∙◌, length, sym, ap, rules}
 use Rattle.std.proofs.lemmas.Bool.{eq-eqb, ne_eqb}
 use Rattle.qtt_term.specs.Signature.{prim_signature}
-use Rattle.qtt_core_check.specs.Signatures.{signature}
+use Rattle.qtt_term.specs.Telescopes.{signature}
 use Rattle.qtt_core_check.proofs.Scopes.{length-tele}
 use Rattle.qtt_core_check.proofs.Within.{holds, unmet}
 use Rattle.qtt_core_check.proofs.premises.Checker.prim_signature.Goals as goal

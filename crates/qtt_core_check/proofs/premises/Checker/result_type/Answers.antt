@@ -5,7 +5,7 @@ use Rattle.qtt_term.specs.Substitution.{sub, push}
 use Rattle.qtt_term.specs.Shift.{values_in}
 use Rattle.qtt_term.specs.View.{term, terms}
 use Rattle.qtt_core_check.specs.Cases.{motive_of}
-use Rattle.qtt_core_check.proofs.Binders.{side-joined}
+use Rattle.qtt_term.proofs.Binders.{side-joined}
 use Rattle.qtt_core_check.proofs.premises.Checker.result_type.Goals as goal
 
 pub returns : goal.returns

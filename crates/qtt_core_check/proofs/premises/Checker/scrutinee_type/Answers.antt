@@ -5,7 +5,7 @@ use Rattle.qtt_term.specs.Substitution.{sub}
 use Rattle.qtt_term.specs.Signature.{self_of}
 use Rattle.qtt_term.specs.Items.{family}
 use Rattle.qtt_term.specs.View.{term, terms}
-use Rattle.qtt_core_check.specs.Filled.{filled}
+use Rattle.qtt_term.specs.Telescopes.{filled}
 use Rattle.qtt_core_check.proofs.ArgumentLists.{filled-more}
 use Rattle.qtt_core_check.proofs.premises.Checker.scrutinee_type.Goals as goal
 

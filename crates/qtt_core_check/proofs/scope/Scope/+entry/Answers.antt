@@ -1,6 +1,6 @@
 use Rattle.std.proofs.Common.{◌≡◌, ◌≤◌, length, rules, arith}
 use Rattle.qtt_term.specs.Judgement.{ext}
-use Rattle.qtt_core_check.specs.Filled.{tele}
+use Rattle.qtt_term.specs.Telescopes.{tele}
 use Rattle.qtt_core_check.specs.Seen.{ctx}
 use Rattle.qtt_core_check.proofs.Scopes.{several-inner, several-outer}
 use Rattle.qtt_core_check.proofs.scope.Scope.+entry.Goals as goal
