@@ -13,7 +13,8 @@ use Rattle.qtt_term.specs.Judgement.{Ctx, KeyIn, mult_at, Part, under, UseIs, Ju
 use Rattle.qtt_term.specs.Environment.{NoTape, ResultsCounted}
 use Rattle.qtt_term.specs.Accepted.{IsSmall, Accepts, AcceptsAll}
 use Rattle.qtt_term.specs.Ask.{Ask, ◌>>=◌, Ending, Ends}
-use Rattle.qtt_term.specs.Infer.{at, Inferred, inferred, infer, need, wanted, family_wants, constructor_wants, arguments, constructor_at, rule_of}
+use Rattle.qtt_term.specs.Infer.{at, Inferred, inferred, infer, wanted, family_wants, constructor_wants, arguments, constructor_at, rule_of}
+use Rattle.qtt_term.specs.Premises.{need}
 use Rattle.qtt_term.specs.declared.rule.Rule.TheVariants as rule
 use Rattle.qtt_term.proofs.Options.{some-injective}
 use Rattle.qtt_confluence.proofs.Facts.{types_are_injective}

@@ -3,11 +3,9 @@
 ghost use Rattle.qtt_term.specs.Signature.{Env};
 ghost use Rattle.qtt_term.specs.Contraction.{BodiesClosed};
 ghost use Rattle.qtt_term.specs.Judgement.{Ctx, Part};
-ghost use Rattle.qtt_core_check.specs.Laws.{EndingsAreSo, OneEnding, LargerBudgetsKeepEndings, InferIsSound, AcceptedIsTyped, OneTypeAndUse, FailuresAreSo, AcceptedIsInferred};
-ghost use Rattle.qtt_core_check.specs.Laws.{AsksForNoReading};
+ghost use Rattle.qtt_core_check.specs.Laws.{EndingsAreSo, OneEnding, LargerBudgetsKeepEndings, InferIsSound, AcceptedIsTyped, OneTypeAndUse, FailuresAreSo, AcceptedIsInferred, AsksForNoReading};
 ghost use Rattle.qtt_core_check.specs.Examples.{DeadPartsUseNothing, SortsAreBounded};
-ghost use Rattle.qtt_term.specs.Environment.{ResultsCounted};
-ghost use Rattle.qtt_term.specs.Environment.{WellFormed};
+ghost use Rattle.qtt_term.specs.Environment.{ResultsCounted, WellFormed};
 
 /// What a judgement answers within a budget is so without one: a type, a premise that fails, or
 /// the first question that is spent.

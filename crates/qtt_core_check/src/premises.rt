@@ -2,12 +2,11 @@
 
 ghost use Rattle.std.specs.Prelude.{◌≡◌, ◌+◌, ◌<◌, IfOk, MatchResult, length};
 ghost use Rattle.qtt_usage.specs.Mult.{same_mult};
-ghost use Rattle.qtt_term.specs.View.{term};
+ghost use Rattle.qtt_term.specs.View.{term, terms, side_by_side};
 ghost use Rattle.qtt_term.specs.Contexts.{part};
 ghost use Rattle.qtt_term.specs.Judgement.{under};
 ghost use Rattle.qtt_term.specs.Infer.{at, usable, use_at, agree, sort_of, function_of, family_of};
 ghost use Rattle.qtt_term.specs.Term.{same_id};
-ghost use Rattle.qtt_term.specs.View.{terms, side_by_side};
 ghost use Rattle.qtt_core_check.specs.Seen.{ctx, function};
 ghost use Rattle.qtt_core_check.specs.Calls.{Answers};
 ghost use Rattle.qtt_core_check.specs.declared.refusal.CoreRefusal.TheVariants.{Memory};

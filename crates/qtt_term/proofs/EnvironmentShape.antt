@@ -30,7 +30,8 @@ side-all E [] = refl
 side-all E (t ∷ ts) = ap (λ b. in_shape E t && b) (side-all E ts)
 
 pub constructor-tests : (E : Env) (c : code_constructor.Constructor) (a b : Bool) →
-    a ≡ list_all (λ v. in_shape E (term v.1)) c.fields.items → b ≡ all_in_shape E (side_by_side (terms c.result.items)) →
+    a ≡ list_all (λ v. in_shape E (term v.1)) c.fields.items →
+    b ≡ all_in_shape E (side_by_side (terms c.result.items)) →
     (a && b) ≡ constructor_in_shape E (constructor c)
 constructor-tests E c a b d e =
     ap₂ (λ a b. a && b) (d ∙ sym (list_all-map (λ b. in_shape E b.1) field c.fields.items)) e

@@ -1,13 +1,13 @@
 //! Whether an environment is in shape: Prim's families are there, and each item is in shape.
 
-ghost use Rattle.std.specs.Prelude.{◌≡◌, ◌↔◌, ◌&&◌, [], ◌∷◌, Some, IsTrue, map};
+ghost use Rattle.std.specs.Prelude.{◌≡◌, ◌↔◌, ◌&&◌, [], Some, IsTrue, map};
 ghost use Rattle.std.specs.List.{list_all};
 ghost use Rattle.qtt_usage.specs.Mult.{𝟘};
 ghost use Rattle.qtt_term.specs.Environment.{HasPrim};
 ghost use Rattle.qtt_term.specs.Globals.{env as env_of};
 ghost use Rattle.qtt_term.specs.Items.{field, family as family_of, constructor as constructor_of, definition as definition_of};
 ghost use Rattle.qtt_term.specs.Shape.{EnvInShape, constructor_in_shape as constructor_shape, family_in_shape as family_shape, definition_in_shape as definition_shape};
-ghost use Rattle.qtt_term.specs.Signature.{prim_id as id_of, plain_constructor, unit_family, bool_family, line_family, eq_family};
+ghost use Rattle.qtt_term.specs.Signature.{prim_id as id_of, unit_family, bool_family, line_family, eq_family};
 ghost use Rattle.qtt_term.specs.View.{terms, side_by_side};
 
 use crate::conditions::are_counted;
