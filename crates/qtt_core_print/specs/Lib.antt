@@ -1,0 +1,4 @@
+pub mod Names
+pub mod Printing
+pub mod Writing
+pub mod Rows

@@ -1,0 +1,5 @@
+pub mod Generated
+pub mod Canonical
+pub mod Seen
+pub mod Laws
+pub mod Rows
