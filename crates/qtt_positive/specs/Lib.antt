@@ -1,0 +1,3 @@
+pub mod FirstBad
+pub mod Laws
+pub mod Rows
