@@ -1,0 +1,3 @@
+mod Components
+pub mod Least
+mod Rows
