@@ -81,8 +81,10 @@ walk_family K n ns ps t cs s = do
   ps' ← walk_params K [] ps
   t' ← walk K ps'.types t
   cs' ← walk_cons (with_own ((n, family_sig ps'.params t'.tree) ∷ []) K) ps'.types cs
-  done (record { item = family n ns ps'.params t'.tree cs' s;
-    own = (n, family_sig ps'.params t'.tree) ∷ map (own_con ps'.params) cs' })
+  done (record {
+    item = family n ns ps'.params t'.tree cs' s;
+    own = (n, family_sig ps'.params t'.tree) ∷ map (own_con ps'.params) cs';
+  })
 
 abbrev pub walk_signature : Known → Bool → Mult → List ℕ → Span → Tree → Span → Filling Grown
 walk_signature K p m n ns t s = do

@@ -78,27 +78,31 @@ number_among (Inserted ∷ ms) (suc i) = number_among ms i
 number_among (Written ∷ ms) (suc i) = suc (number_among ms i)
 number_among (Braced ∷ ms) (suc i) = suc (number_among ms i)
 
--- an expression of a clause among the variables with these marks
-abbrev pub side_forgotten : List Mark → Tree → Tree
-side_forgotten ms t = replaced (λ i n. at_binder (number_among (reverse ms) i) n) (forgotten t)
+-- an expression of a clause, where `renumber` gives each local name its number among the written ones
+abbrev pub side_forgotten : (ℕ → ℕ) → Tree → Tree
+side_forgotten renumber t = replaced (λ i n. at_binder (renumber i) n) (forgotten t)
 
 abbrev pub variable_unless_inserted : Mark → List ℕ → Span → Shapes → Shapes
 variable_unless_inserted k n s more = if is_inserted k then more else shape_and (variable k n s) more
 
 abbrev mutual
   -- a pattern in front of those that are left
-  pub shape_forgotten : List Mark → Shape → Shapes → Shapes
-  shape_forgotten ms (variable k n s) more = variable_unless_inserted k n s more
-  shape_forgotten ms (wildcard k s) more = shape_and (wildcard k s) more
-  shape_forgotten ms (constructor k h ps s) more = shape_and (constructor k h (shapes_forgotten ms ps) s) more
-  shape_forgotten ms (dot k e s) more = shape_and (dot k (side_forgotten ms e) s) more
+  pub shape_forgotten : (ℕ → ℕ) → Shape → Shapes → Shapes
+  shape_forgotten renumber (variable k n s) more = variable_unless_inserted k n s more
+  shape_forgotten renumber (wildcard k s) more = shape_and (wildcard k s) more
+  shape_forgotten renumber (constructor k h ps s) more =
+      shape_and (constructor k h (shapes_forgotten renumber ps) s) more
+  shape_forgotten renumber (dot k e s) more = shape_and (dot k (side_forgotten renumber e) s) more
 
-  pub shapes_forgotten : List Mark → Shapes → Shapes
-  shapes_forgotten ms no_shape = no_shape
-  shapes_forgotten ms (shape_and p more) = shape_forgotten ms p (shapes_forgotten ms more)
+  pub shapes_forgotten : (ℕ → ℕ) → Shapes → Shapes
+  shapes_forgotten renumber no_shape = no_shape
+  shapes_forgotten renumber (shape_and p more) = shape_forgotten renumber p (shapes_forgotten renumber more)
 
+-- a clause whose variables have these marks
 abbrev pub clause_forgotten : List ℕ → List Mark → Shapes → Tree → Span → Item
-clause_forgotten n ms ps side s = clause n (shape_list (shapes_forgotten ms ps)) (side_forgotten ms side) s
+clause_forgotten n ms ps side s =
+    let renumber = number_among (reverse ms) in
+    clause n (shape_list (shapes_forgotten renumber ps)) (side_forgotten renumber side) s
 
 -- ---- items
 abbrev pub param_forgotten : Param → Param

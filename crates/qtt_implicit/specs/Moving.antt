@@ -113,8 +113,11 @@ replaced σ = changed (record { name = λ d n. replaced_name σ d n n.target; ma
 -- each place is this one
 abbrev pub placed : Span → Tree → Tree
 placed s =
-    changed (record { name = λ d n. name (record { path = n.path; target = n.target; span = s }); mark = kept;
-      span = λ t. s }) 0
+    changed (record {
+      name = λ d n. name (record { path = n.path; target = n.target; span = s });
+      mark = kept;
+      span = λ t. s;
+    }) 0
 
 -- ---- unknown parts
 -- A part that is unknown is a name that stands for nothing: in a tree whose names were looked up no other name does.

@@ -144,7 +144,7 @@ end_of t = t
 abbrev pub family_fields : Sig → Option (GlobalId × List Tree) → Option (GlobalId × List Tree) → Columns
 family_fields S (Some F) (Some G) =
     if same_id F.0 G.0 then Columns.told (reverse (slots_of S.params (take S.params G.1)))
-        (behind_binders S.params S.type)
+    (behind_binders S.params S.type)
     else Columns.untold
 family_fields S _ _ = Columns.untold
 
@@ -200,8 +200,12 @@ abbrev mutual
     done (record { shape = dot k e'.tree s; tree = e'.tree; met = v })
   walk_shape K v T (constructor k h ps s) = do
     ps' ← walk_shapes K v (fields_on (signature_of K h.target) T) ps
-    done (record { shape = constructor k h ps'.shapes s; tree = application (name h)
-        (map written_argument ps'.trees) s; met = ps'.met })
+    done (record {
+      shape = constructor k h ps'.shapes s;
+      tree = application (name h)
+          (map written_argument ps'.trees) s;
+      met = ps'.met;
+    })
 
   pub walk_shapes : Known → Met → Columns → Shapes → Filling AllSeen
   walk_shapes K v cs no_shape = done (record { shapes = no_shape; trees = []; met = v })

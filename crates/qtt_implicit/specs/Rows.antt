@@ -162,8 +162,12 @@ abbrev pub prim_at : Span → ℕ → List ℕ → Tree
 prim_at s n path = name (record { path = path; target = target.Global (prim_id n); span = s })
 
 abbrev pub own_at : Span → ℕ → List ℕ → Tree
-own_at s n path = name (record { path = path; target = target.Global
-    (record { «module» = record { 0 = 1 }; item = n }); span = s })
+own_at s n path = name (record {
+  path = path;
+  target = target.Global
+      (record { «module» = record { 0 = 1 }; item = n });
+  span = s;
+})
 
 -- `id {a} x`, `a` inserted
 abbrev pub filled_id : Tree → Tree → Tree
@@ -203,14 +207,14 @@ abbrev pub braces_in_front : Tree
 braces_in_front =
     let v = used (codes "v") in
     apply (used (codes "append")) (arguments (argument Braced (used (codes "Int")) ∷ argument Written v
-        ∷ argument Written (call (codes "append") (v ∷ v ∷ [])) ∷ [])) here
+    ∷ argument Written (call (codes "append") (v ∷ v ∷ [])) ∷ [])) here
 
 -- h : (n : Nat) -> (m : Nat) -> Vect Int m -> Int; h n p v = total v
 abbrev pub h_of : Shape → Module
 h_of p =
     main_module (numbers ++ vectors Braced ∷ total_type Braced
     ∷ typed (codes "h") (binder Written ω (codes "n") nat
-        (binder Written ω (codes "m") nat (arrow (vect (used (codes "Int")) (used (codes "m"))) (used (codes "Int")))))
+    (binder Written ω (codes "m") nat (arrow (vect (used (codes "Int")) (used (codes "m"))) (used (codes "Int")))))
     ∷ equation (codes "h") (var (codes "n") ∷ p ∷ var (codes "v") ∷ []) total_v ∷ [])
 
 abbrev pub dotted : Tree → Shape
@@ -274,7 +278,7 @@ pub record FillingRows : Type 0 where
   -- f x = x {Int}
   pub braces_on_local : refused (reading (main_module (typed (codes "f") (arrow (used (codes "Int")) (used (codes "Int")))
       ∷ equation (codes "f") (var (codes "x") ∷ [])
-          (apply (used_at (at 5 5) (codes "x")) (arguments (argument Braced (used (codes "Int")) ∷ [])) (at 5 5)) ∷ [])))
+      (apply (used_at (at 5 5) (codes "x")) (arguments (argument Braced (used (codes "Int")) ∷ [])) (at 5 5)) ∷ [])))
       ≡ Some (Refusal.braces 0 1 (at 5 5))
   -- what is inserted stands at the used name
   pub of_number : last (x_is (id_of (int (pos 3)))) ≡ Some (filled_id (prim_at (at 5 5) 0 (codes "Int")) (int (pos 3)))

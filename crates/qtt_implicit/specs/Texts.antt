@@ -90,7 +90,7 @@ numbers =
     ∷ typed (codes "plus") (arrow nat (arrow nat nat))
     ∷ equation (codes "plus") (con_pattern (codes "Z") [] ∷ var (codes "m") ∷ []) (used (codes "m"))
     ∷ equation (codes "plus") (con_pattern (codes "S") (var (codes "n") ∷ []) ∷ var (codes "m") ∷ [])
-        (s (plus (used (codes "n")) (used (codes "m"))))
+    (s (plus (used (codes "n")) (used (codes "m"))))
     ∷ []
 
 -- in round brackets or in braces, by the mark:
@@ -103,14 +103,14 @@ vectors i =
     ∷ con (codes "Cons")
     (binder i 𝟘 (codes "k") nat (binder Written 𝟙 (codes "x") (used (codes "a"))
     (binder Written 𝟙 (codes "xs") (vect (used (codes "a")) (used (codes "k"))) (vect (used (codes "a")) (s (used (codes "k")))))))
-        here ∷ []) here
+    here ∷ []) here
 
 -- append : {0 a : Type} -> {0 m : Nat} -> {0 n : Nat} -> (1 xs : Vect a m) -> (1 ys : Vect a n) -> Vect a (plus m n)
 abbrev pub append_type : Mark → Item
 append_type i =
     typed (codes "append") (binder i 𝟘 (codes "a") types (binder i 𝟘 (codes "m") nat (binder i 𝟘 (codes "n") nat
     (binder Written 𝟙 (codes "xs") (vect (used (codes "a")) (used (codes "m")))
-        (binder Written 𝟙 (codes "ys") (vect (used (codes "a")) (used (codes "n")))
+    (binder Written 𝟙 (codes "ys") (vect (used (codes "a")) (used (codes "n")))
     (vect (used (codes "a")) (plus (used (codes "m")) (used (codes "n")))))))))
 
 -- total : {0 n : Nat} -> Vect Int n -> Int
@@ -156,7 +156,7 @@ long_append =
     let implicit = λ (ps : List Shape). var (codes "a") ∷ var (codes "m") ∷ var (codes "n") ∷ ps in
     equation (codes "append") (implicit (con_pattern (codes "Nil") [] ∷ var (codes "ys") ∷ [])) (used (codes "ys"))
     ∷ equation (codes "append") (implicit (con_pattern (codes "Cons") (var (codes "k") ∷ var (codes "x") ∷ var (codes "xs") ∷ [])
-        ∷ var (codes "ys") ∷ []))
+    ∷ var (codes "ys") ∷ []))
     (call (codes "Cons") (plus (used (codes "k")) (used (codes "n")) ∷ used (codes "x")
     ∷ call (codes "append") (used (codes "a") ∷ used (codes "k") ∷ used (codes "n") ∷ used (codes "xs") ∷ used (codes "ys") ∷ []) ∷ [])) ∷ []
 
@@ -176,7 +176,7 @@ long_sum =
     let nil = used (codes "Nil") in
     call (codes "total") (plus (s (s z)) (s z)
     ∷ call (codes "append") (used (codes "Int") ∷ s (s z) ∷ s z ∷ long_cons (s z) 4 (long_cons z 5 nil) ∷ long_cons z 6 nil ∷ [])
-        ∷ [])
+    ∷ [])
 
 abbrev pub long_program : Module
 long_program = main_module (numbers ++ vectors Written ∷ append_type Written ∷ long_append ++ total_type Written
@@ -199,7 +199,7 @@ empty_alone = used_at (at 5 5) (codes "empty")
 abbrev pub with_id : List Item → Module
 with_id items =
     main_module (typed (codes "id") (binder Braced 𝟘 (codes "a") types (arrow (used (codes "a")) (used (codes "a"))))
-        ∷ equation (codes "id") (var (codes "x") ∷ []) (used (codes "x")) ∷ items)
+    ∷ equation (codes "id") (var (codes "x") ∷ []) (used (codes "x")) ∷ items)
 
 abbrev pub id_of : Tree → Tree
 id_of t = apply (used_at (at 5 5) (codes "id")) (arguments (argument Written t ∷ [])) (at 5 5)

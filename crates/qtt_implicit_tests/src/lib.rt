@@ -1,0 +1,5 @@
+//! Tests of the public calls of `qtt_implicit`.
+#![tactic(auto)]
+
+#[cfg(test)]
+mod forgetting;
