@@ -24,8 +24,8 @@ use Rattle.qtt_implicit.specs.Walk.{Walked, Given, Then, Types, type_at, walk, w
 use Rattle.qtt_implicit.specs.Forget.{unless_inserted, forgotten, forgotten_annotation, forgotten_arguments, forgotten_binder, forgotten_binders, forgotten_statement, forgotten_statements}
 use Rattle.qtt_implicit.specs.Laws.{unless, all_written, braces_first, has_argument, misplaced, chain_length, HasItsBinders}
 use Rattle.qtt_implicit.proofs.Outcomes.{Gives, Always, then_always, done_always, stop_always}
-use Rattle.qtt_implicit.proofs.Known.{Has}
-use Rattle.qtt_implicit.proofs.Slots.{Begins, AllOpen, begins, open_alone}
+use Rattle.qtt_implicit.proofs.SeenSignatures.{Has}
+use Rattle.qtt_implicit.proofs.FilledSlots.{Begins, AllOpen, begins, open_alone}
 
 -- ---- arguments, as they were walked
 abbrev pub restored : Given → Argument

@@ -29,8 +29,8 @@ use Rattle.qtt_implicit.specs.Forget.{forgotten, number_among, side_forgotten, v
 use Rattle.qtt_implicit.specs.Forgetting.{renumbering}
 use Rattle.qtt_implicit.specs.Laws.{weighed_shape, weighed_shapes, weighed_param, weighed_con, weighed_item, inserted, unless, all_written, braces_first, has_argument, misplaced, chain_length, HasItsBinders, FilledIsForgotten}
 use Rattle.qtt_implicit.proofs.Outcomes.{Gives, Always, then_always, done_always}
-use Rattle.qtt_implicit.proofs.Known.{Each, Sees, seen, sees_more, imports_seen, sum_more}
-use Rattle.qtt_implicit.proofs.Renumbering.{renumbered_name, undone, weighed_same}
+use Rattle.qtt_implicit.proofs.SeenSignatures.{Each, Sees, seen, sees_more, imports_seen, sum_more}
+use Rattle.qtt_implicit.proofs.RenumberedTrees.{renumbered_name, undone, weighed_same}
 use Rattle.qtt_implicit.proofs.ForgottenParts.{listed}
 use Rattle.qtt_implicit.proofs.Back.{back}
 

@@ -23,7 +23,7 @@ use Rattle.qtt_implicit.specs.Filling.{Stop, done, put, stop}
 use Rattle.qtt_implicit.specs.Walk.{Walked, Given, Then, Types, type_at, walk, walk_annotation, walk_argument, walk_arguments, walk_binder, walk_binders, walk_statement, walk_statements, is_braced, is_written, inserted_nodes, given_tree, given_argument, in_braces, not_in_braces, application, plainly_applied, behind_binders, binder_names, slot_arguments, few_braces, applied, applied_global, applied_name}
 use Rattle.qtt_implicit.specs.Laws.{unless, all_written, has_argument, not_plain, HasNoBraces}
 use Rattle.qtt_implicit.proofs.Outcomes.{Comes, then_comes, done_comes}
-use Rattle.qtt_implicit.proofs.Known.{Has}
+use Rattle.qtt_implicit.proofs.SeenSignatures.{Has}
 use Rattle.qtt_implicit.proofs.Back.{filter_yes, filter_no}
 
 -- ---- arguments, as they were walked

@@ -27,8 +27,8 @@ use Rattle.qtt_implicit.specs.Patterns.{Columns, Met, Seen, AllSeen, signature_o
 use Rattle.qtt_implicit.specs.Filled.{Grown, Params, Refusal, Filled, brace_count, with_own, walk_params, walk_cons, own_con, walk_family, walk_signature, no_sig, walk_clause, walk_item, item_nodes, place_of, grown, filled_item, and_item, item_then, filled_items, with_items, at_start, filled}
 use Rattle.qtt_implicit.specs.Laws.{weighed_shape, weighed_shapes, weighed_param, weighed_con, weighed_item, inserted, not_plain, HasNoBraces, FilledWithItself}
 use Rattle.qtt_implicit.proofs.Outcomes.{Comes, then_comes, done_comes}
-use Rattle.qtt_implicit.proofs.Known.{Each, Has, Sees, seen, seen_named, sees_more, imports_seen, each_of, each-append, sum_more}
-use Rattle.qtt_implicit.proofs.Renumbering.{unmoved}
+use Rattle.qtt_implicit.proofs.SeenSignatures.{Each, Has, Sees, seen, seen_named, sees_more, imports_seen, each_of, each-append, sum_more}
+use Rattle.qtt_implicit.proofs.RenumberedTrees.{unmoved}
 use Rattle.qtt_implicit.proofs.ForgottenParts.{listed}
 use Rattle.qtt_implicit.proofs.BackItems.{OwnHave, shape_sums}
 use Rattle.qtt_implicit.proofs.Plain.{nothing_put, stays}

@@ -21,8 +21,8 @@ use Rattle.qtt_implicit.specs.Known.{Known, signature}
 use Rattle.qtt_implicit.specs.Filling.{Stop, done, put, stop}
 use Rattle.qtt_implicit.specs.Walk.{Walked, Given, Then, Types, type_at, walk, walk_annotation, walk_argument, walk_arguments, walk_binder, walk_binders, walk_statement, walk_statements, is_braced, is_written, inserted_nodes, given_tree, given_argument, in_braces, not_in_braces, application, plainly_applied, behind_binders, binder_names, slot_argument, slot_arguments, few_braces, applied, applied_global, applied_name}
 use Rattle.qtt_implicit.proofs.Outcomes.{Takes, Spends, then_spends, done_spends, stop_spends, weaker_spends}
-use Rattle.qtt_implicit.proofs.Known.{sum_more}
-use Rattle.qtt_implicit.proofs.Slots.{Begins, AllOpen, begins, open_alone}
+use Rattle.qtt_implicit.proofs.SeenSignatures.{sum_more}
+use Rattle.qtt_implicit.proofs.FilledSlots.{Begins, AllOpen, begins, open_alone}
 use Rattle.qtt_implicit.proofs.Back.{filter_yes, filter_no}
 
 -- ---- nodes

@@ -21,8 +21,8 @@ use Rattle.qtt_implicit.specs.Patterns.{Columns, Met, Seen, AllSeen, signature_o
 use Rattle.qtt_implicit.specs.Filled.{Grown, Params, Refusal, Filled, FilledText, with_own, walk_params, walk_cons, no_sig, walk_clause, walk_item, param_nodes, con_nodes, item_nodes, place_of, grown, filled_item, and_item, item_then, filled_items, with_items, at_start}
 use Rattle.qtt_implicit.specs.Laws.{unless, FilledIsWithinLimit, items_of}
 use Rattle.qtt_implicit.proofs.Outcomes.{Takes, Spends, then_spends, done_spends, weaker_spends}
-use Rattle.qtt_implicit.proofs.Known.{Each, all_of, sum_more}
-use Rattle.qtt_implicit.proofs.Renumbering.{weighed_same}
+use Rattle.qtt_implicit.proofs.SeenSignatures.{Each, all_of, sum_more}
+use Rattle.qtt_implicit.proofs.RenumberedTrees.{weighed_same}
 use Rattle.qtt_implicit.proofs.Spending.{one, put_spends, spends}
 
 -- ---- nodes of patterns without the variables that were put in

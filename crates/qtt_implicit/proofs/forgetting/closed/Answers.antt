@@ -4,7 +4,7 @@ use Rattle.qtt_syntax.specs.Tree.{Tree}
 use Rattle.qtt_syntax.specs.View.{tree_of}
 use Rattle.qtt_implicit.specs.Forget.{forgotten}
 use Rattle.qtt_implicit.specs.Forgetting.{number_of}
-use Rattle.qtt_implicit.proofs.Renumbering.{unmoved}
+use Rattle.qtt_implicit.proofs.RenumberedTrees.{unmoved}
 use Rattle.qtt_implicit.proofs.forgetting.closed.Goals as goal
 
 pub returns : goal.returns
