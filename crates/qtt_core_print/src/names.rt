@@ -25,7 +25,7 @@ fn told_name(id: GlobalId, name: &Name) -> &[u8]
 }
 
 /// What stands behind the last dot.
-fn last_part(name: &[u8]) -> &[u8]
+pub fn last_part(name: &[u8]) -> &[u8]
     ensures { result.now ≡ unqualified name.now }
 {
     let mut from = 0;

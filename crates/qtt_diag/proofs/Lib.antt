@@ -1,0 +1,5 @@
+pub mod Rows
+pub mod KindNumbers
+pub mod PrintedPatterns
+pub mod PatternParts
+pub mod Hexadecimal

@@ -1,0 +1,6 @@
+pub mod Kept
+pub mod Patterns
+pub mod Messages
+pub mod Writing
+pub mod Laws
+pub mod Rows
