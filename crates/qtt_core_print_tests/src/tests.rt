@@ -3,7 +3,7 @@
 use qtt_base::{GlobalId, ModuleId, Name};
 use qtt_core_print::{print_core, print_definition};
 use qtt_prims::{ActKind, Lit, Primitive};
-use qtt_term::{Branch, Case, ConId, Globals, IoKind, Term};
+use qtt_term::{Branch, Case, ConId, Definition, Globals, IoKind, Term};
 use qtt_usage::mult::Mult;
 use std::alloc::Global;
 use std::test::Fail;
@@ -27,26 +27,27 @@ fn identity(alloc: Global) -> Result<Term, Fail> {
 #[test]
 fn lines_of_definitions_are_printed(rt: HostRuntime) -> Result<(), Fail> {
     let alloc = rt.alloc();
-    let mut names = Globals::prim(alloc)?;
-    let ty = Term::pi(alloc, Mult::One, Term::IntTy, Term::IntTy)?;
-    names.add_signature(of_main(0), Name::new(alloc, "Main.id")?, Mult::Many, ty)?;
-    names.add_signature(
-        of_main(1),
-        Name::new(alloc, "Main.p")?,
-        Mult::Zero,
-        Term::IntTy,
-    )?;
-    names.set_body(of_main(0), identity(alloc)?)?;
-    let Some(id) = names.definition(of_main(0)) else {
-        return Ok(());
+    let names = Globals::prim(alloc)?;
+    let identity = Definition {
+        id: of_main(0),
+        name: Name::new(alloc, "Main.id")?,
+        mult: Mult::Many,
+        ty: Term::pi(alloc, Mult::One, Term::IntTy, Term::IntTy)?,
+        body: Some(identity(alloc)?),
     };
-    let line = print_definition(alloc, &names, id)?;
+    let line = print_definition(alloc, &names, &identity)?;
     let wanted = "Main.id : ((1 x0 : Int) -> Int) = (\\(1 x0 : Int) => x0)";
     assert!(rt; line.as_slice() == wanted.as_bytes());
-    let Some(p) = names.definition(of_main(1)) else {
-        return Ok(());
+    let absent = Definition {
+        id: of_main(1),
+        name: Name::new(alloc, "Main.p")?,
+        mult: Mult::Zero,
+        ty: Term::IntTy,
+        body: None,
     };
-    assert!(rt; print_definition(alloc, &names, p)?.as_slice() == "0 Main.p : Int".as_bytes());
+    assert!(rt;
+        print_definition(alloc, &names, &absent)?.as_slice() == "0 Main.p : Int".as_bytes()
+    );
     Ok(())
 }
 
