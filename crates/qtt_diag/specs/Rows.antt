@@ -52,6 +52,11 @@ any = wildcard Written (at 1 1)
 abbrev pub filled_in : Shape
 filled_in = variable Inserted (codes "'0") (at 1 1)
 
+-- S (S n)
+abbrev pub twice_successor : Shape
+twice_successor =
+    pattern (codes "Main.S") (pattern (codes "Main.S") (variable Written (codes "n") (at 1 1) ∷ []) ∷ [])
+
 pub record MessageRows : Type 0 where
   pub broken_byte : main 1 1 Detail.not_utf8 ≡ codes "Main:1:1: 1 NotUtf8"
   pub sign : main 2 1 (Detail.bad_character 35) ≡ codes "Main:2:1: 2 BadCharacter U+0023"
@@ -73,7 +78,9 @@ pub record MessageRows : Type 0 where
   pub not_a_function : main 3 5 (premise (Cause.not_a_function 0 IntTy)) ≡ codes "Main:3:5: 15 NotAFunction Int"
   pub text_for_number : main 3 5 (premise (Cause.mismatch 0 IntTy StringTy))
       ≡ codes "Main:3:5: 16 TypeMismatch expected Int found String"
-  pub sums : message (refused with_nat 9 10 (premise (Cause.mismatch 1 (EqTy nat plus_zero (var 0)) (EqTy nat plus_zero plus_zero))))
+  pub sums :
+      message (refused with_nat 9 10
+      (premise (Cause.mismatch 1 (EqTy nat plus_zero (var 0)) (EqTy nat plus_zero plus_zero))))
       ≡ codes "Main:9:10: 16 TypeMismatch expected (Eq Main.Nat ((Main.plus x0) Main.Z) x0) found (Eq Main.Nat ((Main.plus x0) Main.Z) ((Main.plus x0) Main.Z))"
   pub quantity : main 3 5 (premise (Cause.wrong_quantity 𝟙 ω))
       ≡ codes "Main:3:5: 17 WrongQuantity expected 1 found many"
@@ -88,7 +95,8 @@ pub record MessageRows : Type 0 where
   pub no_family : main 3 5 (premise (Cause.not_a_family 1 (Pi ω IntTy (var 1))))
       ≡ codes "Main:3:5: 22 NotAFamily ((x1 : Int) -> x0)"
   pub erased : main 3 7 (premise (Cause.erased_use 1 (var 0))) ≡ codes "Main:3:7: 23 ErasedUse x0"
-  pub compared : message (refused circles 7 7 (Detail.budget_spent 10 (Question.compared 1 (Def (item 1)) (Def (item 0)))))
+  pub compared :
+      message (refused circles 7 7 (Detail.budget_spent 10 (Question.compared 1 (Def (item 1)) (Def (item 0)))))
       ≡ codes "Main:7:7: 24 BudgetSpent 10 compare Main.v Main.w"
   pub head_asked : message (refused circles 7 7 (Detail.budget_spent 10 (Question.head_of 0 (Def (item 1)))))
       ≡ codes "Main:7:7: 24 BudgetSpent 10 head Main.v"
@@ -99,7 +107,8 @@ pub record MessageRows : Type 0 where
   pub erased_match : main 3 3 (premise (Cause.erased_match (Some (codes "b")))) ≡ codes "Main:3:3: 27 ErasedMatch b"
   pub missing_zero : main 6 1 (premise (Cause.missing (codes "Main.pred") (pattern (codes "Main.Z") [] ∷ [])))
       ≡ codes "Main:6:1: 28 Missing pred Z"
-  pub missing_nested : main 6 1 (premise (Cause.missing (codes "f") (filled_in ∷ any ∷ pattern (codes "Main.S") (pattern (codes "Main.S") (variable Written (codes "n") (at 1 1) ∷ []) ∷ []) ∷ [])))
+  pub missing_nested :
+      main 6 1 (premise (Cause.missing (codes "f") (filled_in ∷ any ∷ twice_successor ∷ [])))
       ≡ codes "Main:6:1: 28 Missing f _ _ (S (S _))"
   pub no_clauses : main 2 1 (premise (Cause.no_clauses (codes "Main.x"))) ≡ codes "Main:2:1: 29 NoClauses x"
   pub wrong_main : main 1 1 (premise Cause.wrong_main) ≡ codes "Main:1:1: 30 WrongMain"
@@ -109,7 +118,13 @@ pub record MessageRows : Type 0 where
       ≡ codes "Main:1003:1: 31 Limit clauses of a definition 1001"
   pub other_name : main 1 8 (Detail.wrong_module_name (codes "Main") (codes "A.Other"))
       ≡ codes "Main:1:8: 32 WrongModuleName expected Main found A.Other"
-  pub ring : message (record { «module» = codes "A"; span = at 2 1; detail = Detail.cycle (codes "A" ∷ codes "B" ∷ codes "C" ∷ []); names = only_prim })
+  pub ring :
+      message (record {
+        «module» = codes "A";
+        span = at 2 1;
+        detail = Detail.cycle (codes "A" ∷ codes "B" ∷ codes "C" ∷ []);
+        names = only_prim;
+      })
       ≡ codes "A:2:1: 33 Cycle A B C"
   pub unsolved : main 5 5 (Detail.unsolved (codes "a")) ≡ codes "Main:5:5: 34 Unsolved a"
   pub no_action : main 4 3 (premise (Cause.not_an_action 0 IntTy)) ≡ codes "Main:4:3: 35 NotAnAction Int"

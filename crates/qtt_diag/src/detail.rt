@@ -10,7 +10,7 @@ ghost use Rattle.qtt_diag.specs.Patterns.{clause_text};
 ghost use Rattle.qtt_diag.specs.Writing.{Adds, name_of, parts_of};
 
 use crate::parts::{
-    put, put_character, put_mults, put_name, put_name_or_blank, put_names, put_number, put_numbers,
+    put_character, put_mults, put_name, put_name_or_blank, put_names, put_number, put_numbers,
     put_part, put_question, put_term, put_whole_name,
 };
 use crate::patterns::put_patterns;

@@ -1,10 +1,9 @@
 //! The line of a refusal.
 
 ghost use Rattle.std.specs.Prelude.{◌≡◌, IfOk, OnOk};
-ghost use Rattle.qtt_term.specs.Entries.{entries};
 ghost use Rattle.qtt_diag.specs.Kept.{refusal as refusal_of};
 ghost use Rattle.qtt_diag.specs.Messages.{message as message_of, place};
-ghost use Rattle.qtt_diag.specs.Writing.{Adds, name_of};
+ghost use Rattle.qtt_diag.specs.Writing.{Adds};
 
 use crate::detail::{kind_name, put_detail};
 use crate::parts::{put, put_number, put_part};

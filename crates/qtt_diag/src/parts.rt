@@ -1,6 +1,6 @@
 //! The parts of a detail, each behind a blank.
 
-ghost use Rattle.std.specs.Prelude.{◌≡◌, ◌++◌, codes, decimal, option_map, OnOk};
+ghost use Rattle.std.specs.Prelude.{◌++◌, codes, decimal, OnOk};
 ghost use Rattle.qtt_term.specs.Entries.{entries};
 ghost use Rattle.qtt_term.specs.View.{term as term_of};
 ghost use Rattle.qtt_core_print.specs.Names.{unqualified};
