@@ -24,6 +24,7 @@ fn identity(alloc: Global) -> Result<Term, Fail> {
     Ok(Term::lam(alloc, Mult::One, Term::IntTy, Term::Var(0))?)
 }
 
+/// Of definitions that the names don't have.
 #[test]
 fn lines_of_definitions_are_printed(rt: HostRuntime) -> Result<(), Fail> {
     let alloc = rt.alloc();
@@ -36,7 +37,7 @@ fn lines_of_definitions_are_printed(rt: HostRuntime) -> Result<(), Fail> {
         body: Some(identity(alloc)?),
     };
     let line = print_definition(alloc, &names, &identity)?;
-    let wanted = "Main.id : ((1 x0 : Int) -> Int) = (\\(1 x0 : Int) => x0)";
+    let wanted = "_ : ((1 x0 : Int) -> Int) = (\\(1 x0 : Int) => x0)";
     assert!(rt; line.as_slice() == wanted.as_bytes());
     let absent = Definition {
         id: of_main(1),
@@ -45,9 +46,7 @@ fn lines_of_definitions_are_printed(rt: HostRuntime) -> Result<(), Fail> {
         ty: Term::IntTy,
         body: None,
     };
-    assert!(rt;
-        print_definition(alloc, &names, &absent)?.as_slice() == "0 Main.p : Int".as_bytes()
-    );
+    assert!(rt; print_definition(alloc, &names, &absent)?.as_slice() == "0 _ : Int".as_bytes());
     Ok(())
 }
 
