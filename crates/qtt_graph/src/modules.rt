@@ -1,0 +1,82 @@
+//! The modules of a build by their places in the list of texts.
+
+ghost use Rattle.std.specs.Prelude.{◌≡◌, ◌<◌, length, map, IfOk, IsTrue};
+ghost use Rattle.qtt_graph.specs.Graph.{below, names, all_differ};
+ghost use Rattle.qtt_graph.specs.Laws.{Closed};
+ghost use Rattle.qtt_graph.specs.Ranking.{Known, Found};
+ghost use Rattle.qtt_graph.specs.Modules.{graph_of, rows_of, order_of, name_at, ArePlaces};
+
+use crate::places::Places;
+use qtt_base::MemoryError;
+use qtt_syntax::ModuleText;
+use std::alloc::Global;
+
+/// The modules of a build, each by its place in the list of texts.
+#[derive(Drop)]
+pub struct Modules<'t> {
+    texts: &'t [ModuleText],
+    /// Those that each imports, in text order.
+    below: Vec<Vec<usize>>,
+    /// In byte order of their names.
+    order: Vec<usize>,
+    ghost differ: { IsTrue (all_differ (names (graph_of texts.now))) },
+    ghost closed: { Closed (graph_of texts.now) },
+    ghost imports: { map (λ row. row.items) below.items ≡ rows_of (graph_of texts.now) },
+    ghost ordered: { order.items ≡ order_of (graph_of texts.now) },
+}
+
+impl<'t> Modules<'t> {
+    pub fn new(alloc: Global, texts: &'t [ModuleText]) -> Result<Modules<'t>, MemoryError>
+        requires differ { IsTrue (all_differ (names (graph_of texts.now))) }
+        requires closed { Closed (graph_of texts.now) }
+        ensures { IfOk result (λ m. m.texts.now ≡ texts.now) }
+    {
+        let places = Places::new(alloc, texts)?;
+        let mut below = Vec::with_capacity(alloc, texts.len())?;
+        for text in texts {
+            below.push(places.all_imported(alloc, &text.imports)?)?;
+        }
+        let order = places.in_order(alloc)?;
+        Ok(Modules {
+            texts,
+            below,
+            order,
+        })
+    }
+    /// The places of the modules that the module at a place imports, in text order.
+    fn imports(&self, place: usize) -> &[usize]
+        requires there { place < length self.now.texts.now }
+        ensures { ArePlaces (graph_of self.now.texts.now) result.now
+            (below (graph_of self.now.texts.now) (name_at (graph_of self.now.texts.now) place)) }
+    {
+        &self.below[place]
+    }
+
+    /// The rank of a module, or nothing where so many imports lead on from it.
+    #[cycle(rank)]
+    fn rank(
+        &self,
+        known: &mut Vec<Option<usize>>,
+        place: usize,
+        steps: usize,
+    ) -> Option<usize>
+        requires there { place < length self.now.texts.now }
+        requires known { Known (graph_of self.now.texts.now) known.old.items }
+        ensures known { Known (graph_of self.now.texts.now) known.new.items }
+        ensures found { Found (graph_of self.now.texts.now) steps place result }
+    {
+        if let Some(rank) = known[place] {
+            return Some(rank);
+        }
+        if steps == 0 {
+            return None;
+        }
+        let mut rank = 0;
+        for below in self.imports(place) {
+            let next = self.rank(known, *below, steps - 1)?;
+            rank = rank.max(next + 1);
+        }
+        known[place] = Some(rank);
+        Some(rank)
+    }
+}
