@@ -153,7 +153,7 @@ max-is a b = by_order (cases_lt b a)
         right ∙ sym (ap (λ t. cond (is_lt (cond t Less (cond (b == a) Equal Greater))) a b) (le-ltb b a h) ∙ other (b == a))
 
 -- ---- rows and names
-place-at : (ns : List Name) (a : Name) (p : ℕ) → place_among ns a ≡ Some p →
+pub place-at : (ns : List Name) (a : Name) (p : ℕ) → place_among ns a ≡ Some p →
     (slice_index_or ns p [] ≡ a) × (p < length ns)
 place-at [] a p e = absurd (none≢some e)
 place-at (n ∷ ns) a p e = by_test (same_name a n) (place_among ns a) refl refl p e (place-at ns a)
@@ -315,7 +315,7 @@ known-set g known p r l e k = record {
     by_case i s o h d (inr other) = k.ranks i s o h (sym (get_or-set_other known p i (Some r) o other) ∙ d)
 
 -- ---- the row of a module in the code's lists
-mapped : {A : Type 0} (items : A → List ℕ) (rows : List A) (i : ℕ) (d : A) → i < length rows →
+pub mapped : {A : Type 0} (items : A → List ℕ) (rows : List A) (i : ℕ) (d : A) → i < length rows →
     slice_index_or (map items rows) i [] ≡ items (slice_index_or rows i d)
 mapped items [] i d l = absurd (omega (arith, l))
 mapped items (r ∷ rows) zero d l = refl

@@ -5,4 +5,5 @@ mod NamePlaces
 mod Order
 mod ByName
 mod Following
+mod Levelled
 mod Rows

@@ -5,3 +5,4 @@ pub mod Rows
 pub mod Laws
 pub mod Modules
 pub mod Ranking
+pub mod Levels

@@ -25,11 +25,12 @@ has_rank g r a = option_map_or (λ n. n == r) (rank g a) false
 abbrev pub of_rank : Graph → ℕ → List Name
 of_rank g r = filter (has_rank g r) (in_byte_order (names g))
 
-abbrev pub put_first : List Name → List (List Name) → List (List Name)
-put_first [] more = []
+-- in front of others, unless it is empty
+abbrev pub put_first : {A : Type 0} → List A → List (List A) → List (List A)
+put_first [] more = more
 put_first (a ∷ bs) more = (a ∷ bs) ∷ more
 
--- the modules of the ranks from r on, as long as there are any
+-- the modules of the n ranks from r on; a rank without modules is left out
 abbrev pub by_rank : Graph → ℕ → ℕ → List (List Name)
 by_rank g r zero = []
 by_rank g r (suc n) = put_first (of_rank g r) (by_rank g (suc r) n)

@@ -1,9 +1,11 @@
 //! The modules of a build by their places in the list of texts.
 
-ghost use Rattle.std.specs.Prelude.{◌≡◌, ◌<◌, length, map, IfOk, IsTrue};
+ghost use Rattle.std.specs.Prelude.{◌≡◌, ◌<◌, [], length, map, replicate, IfOk, IsTrue};
 ghost use Rattle.qtt_graph.specs.Graph.{below, names, all_differ};
 ghost use Rattle.qtt_graph.specs.Laws.{Closed};
+ghost use Rattle.qtt_graph.specs.Ranks.{ranked};
 ghost use Rattle.qtt_graph.specs.Ranking.{Known, Found};
+ghost use Rattle.qtt_graph.specs.Levels.{AreRanks, AllRanked};
 ghost use Rattle.qtt_graph.specs.Modules.{graph_of, rows_of, order_of, name_at, ArePlaces};
 
 use crate::places::Places;
@@ -79,4 +81,49 @@ impl<'t> Modules<'t> {
         known[place] = Some(rank);
         Some(rank)
     }
+    /// The rank of each module, or nothing where one of them has none.
+    fn ranks(&self, alloc: Global) -> Result<Option<Vec<usize>>, MemoryError>
+        ensures { IfOk result (λ r. AllRanked (graph_of self.now.texts.now) r) }
+    {
+        let mut known = vec![in alloc; None; self.texts.len()]?;
+        let mut ranks = Vec::with_capacity(alloc, self.texts.len())?;
+        for place in 0..self.texts.len() {
+            match self.rank(&mut known, place, self.texts.len()) {
+                Some(rank) => ranks.push(rank)?,
+                None => return Ok(None),
+            }
+        }
+        Ok(Some(ranks))
+    }
+    /// The places of the modules of each rank, within a rank in byte order of their names.
+    fn by_rank(&self, alloc: Global, ranks: &Vec<usize>) -> Result<Vec<Vec<u32>>, MemoryError>
+        requires ranks { AreRanks (graph_of self.now.texts.now) ranks.now.items }
+        ensures { IfOk result (λ found. map (λ level. level.items) found.items ≡
+            ranked (graph_of self.now.texts.now)) }
+    {
+        let mut levels = empty_levels(alloc, self.texts.len())?;
+        for place in &self.order {
+            levels[ranks[*place]].push(number(*place)?)?;
+        }
+        levels.retain(|level| !level.is_empty());
+        Ok(levels)
+    }
+}
+
+/// So many levels without places.
+fn empty_levels(alloc: Global, count: usize) -> Result<Vec<Vec<u32>>, MemoryError>
+    ensures { IfOk result (λ levels. map (λ level. level.items) levels.items ≡ replicate count []) }
+{
+    let mut levels = Vec::with_capacity(alloc, count)?;
+    for _level in 0..count {
+        levels.push(Vec::new(alloc))?;
+    }
+    Ok(levels)
+}
+
+/// A place as a number of 32 bits; more than these hold are told as want of memory.
+fn number(place: usize) -> Result<u32, MemoryError>
+    ensures { IfOk result (λ n. n ≡ place) }
+{
+    u32::try_from(place).map_err(|_| MemoryError)
 }
