@@ -6,4 +6,5 @@ mod Order
 mod ByName
 mod Following
 mod Levelled
+mod Nearer
 mod Rows

@@ -78,14 +78,14 @@ way_is_named g a b [] w = (importer_is_named g a b w, tt)
 way_is_named g a b (c ∷ cs) w = (importer_is_named g a c w.0, way_is_named g c b cs w.1)
 
 -- ---- the first of a list
-abbrev First : List (List Name) → Type 0
+abbrev pub First : List (List Name) → Type 0
 First ws = (w : List Name) × (first_of ws ≡ Some w)
 
-first-map : (f : List Name → List Name) (ws : List (List Name)) → First ws → First (map f ws)
+pub first-map : (f : List Name → List Name) (ws : List (List Name)) → First ws → First (map f ws)
 first-map f [] p = absurd (none≢some p.1)
 first-map f (w ∷ ws) p = (f w, refl)
 
-map-first : (f : List Name → List Name) (ws : List (List Name)) → First (map f ws) → First ws
+pub map-first : (f : List Name → List Name) (ws : List (List Name)) → First (map f ws) → First ws
 map-first f [] p = absurd (none≢some p.1)
 map-first f (w ∷ ws) p = (w, refl)
 
@@ -101,7 +101,7 @@ first-parts : (us vs : List (List Name)) → First (us ++ vs) → First us ⊎ F
 first-parts [] vs p = inr p
 first-parts (u ∷ us) vs p = inl (u, refl)
 
-first-of_all : (h : Name → List (List Name)) (c : Name) (ns : List Name) → is_among ns c ≡ true → First (h c) →
+pub first-of_all : (h : Name → List (List Name)) (c : Name) (ns : List Name) → is_among ns c ≡ true → First (h c) →
     First (flat_map h ns)
 first-of_all h c [] i p = absurd (cc i)
 first-of_all h c (n ∷ ns) i p =
@@ -111,10 +111,10 @@ first-of_all h c (n ∷ ns) i p =
     by_case further (inl e) = first-left (h n) (flat_map h ns) (subst (λ d. First (h d)) e p)
     by_case further (inr later) = first-right (h n) (flat_map h ns) (further later)
 
-abbrev FirstOfOne : (Name → List (List Name)) → List Name → Type 0
+abbrev pub FirstOfOne : (Name → List (List Name)) → List Name → Type 0
 FirstOfOne h ns = (c : Name) × (is_among ns c ≡ true) × First (h c)
 
-of_all-first : (h : Name → List (List Name)) (ns : List Name) → First (flat_map h ns) → FirstOfOne h ns
+pub of_all-first : (h : Name → List (List Name)) (ns : List Name) → First (flat_map h ns) → FirstOfOne h ns
 of_all-first h [] p = absurd (none≢some p.1)
 of_all-first h (n ∷ ns) p =
     by_part (of_all-first h ns) (first-parts (h n) (flat_map h ns) (subst First (flat_map-cons h n ns) p))
@@ -123,10 +123,10 @@ of_all-first h (n ∷ ns) p =
     by_part further (inl q) = (n, in-head n n ns refl, q)
     by_part further (inr q) = let r = further q in (r.0, in-tail r.0 n ns r.1, r.2)
 
-abbrev single : Name → List Name → List (List Name)
+abbrev pub single : Name → List Name → List (List Name)
 single a = map (λ c. a ∷ [])
 
-one-way : (a b : Name) (ns : List Name) → is_among ns b ≡ true → First (single a (filter (same_name b) ns))
+pub one-way : (a b : Name) (ns : List Name) → is_among ns b ≡ true → First (single a (filter (same_name b) ns))
 one-way a b [] i = absurd (cc i)
 one-way a b (n ∷ ns) i = by_test (one-way a b ns) (same_name b n) refl
   where
@@ -139,7 +139,7 @@ one-way a b (n ∷ ns) i = by_test (one-way a b ns) (same_name b n) refl
         subst (λ t. First (single a (cond t (n ∷ filter (same_name b) ns) (filter (same_name b) ns)))) (sym e)
         (later (subst (λ t. (t || is_among ns b) ≡ true) e i))
 
-way-one : (a b : Name) (ns : List Name) → First (single a (filter (same_name b) ns)) → is_among ns b ≡ true
+pub way-one : (a b : Name) (ns : List Name) → First (single a (filter (same_name b) ns)) → is_among ns b ≡ true
 way-one a b [] p = absurd (none≢some p.1)
 way-one a b (n ∷ ns) p = by_test (way-one a b ns) (same_name b n) refl
   where

@@ -6,3 +6,4 @@ pub mod Laws
 pub mod Modules
 pub mod Ranking
 pub mod Levels
+pub mod Near

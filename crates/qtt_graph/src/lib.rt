@@ -5,3 +5,4 @@ pub mod examples;
 pub mod laws;
 mod modules;
 mod places;
+mod ring;
