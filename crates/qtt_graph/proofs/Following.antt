@@ -42,7 +42,7 @@ leads-below g a b r (onward {b = c} i l) k =
     let t = leads-below g c b s.0 l s.1 in
     (t.0, t.1, omega (arith, s.2, t.2))
 
-not-to-itself : (g : Graph) (a : Name) (r : ℕ) → Ranks g a r → Leads g a a → ⊥
+pub not-to-itself : (g : Graph) (a : Name) (r : ℕ) → Ranks g a r → Leads g a a → ⊥
 not-to-itself g a r k l =
     let s = leads-below g a a r l k in
     let same = one-rank g a r s.0 k s.1 in
@@ -343,3 +343,10 @@ row-has_places items rows g i d closed o is l =
       named = r.0;
       within = within-fewer (length (names g)) (length g) _ (length-map g header_name) r.1;
     })
+
+-- a name among the modules has a place
+pub placed : (g : Graph) (a : Name) → is_among (names g) a ≡ true → (p : ℕ) × (p < length g) × (name_at g p ≡ a)
+placed g a i =
+    let p = there-placed (names g) a i in
+    let at = place-at (names g) a p.0 p.1 in
+    (p.0, omega (arith, at.1, length-map g header_name), at.0)

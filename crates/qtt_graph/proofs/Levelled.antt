@@ -200,3 +200,19 @@ filled-kept items (l ∷ ls) = by_items (items l) refl (filled-kept items ls)
         ap (λ qs. map items (cond (is_filled qs) (l ∷ filter (λ l. is_filled (items l)) ls)
                 (filter (λ l. is_filled (items l)) ls))) e ∙
         ap₂ (λ q qs. q ∷ qs) e later ∙ sym (ap (λ qs. put_first qs (filled (map items ls))) e)
+
+named-at : (g : Graph) (bs : List Name) (i : ℕ) → ((b : Name) → is_among bs b ≡ true → is_among (names g) b ≡ true) →
+    i < length bs → name_at g (slice_index_or (map (place g) bs) i 0) ≡ slice_index_or bs i []
+named-at g [] i there l = absurd (omega (arith, l))
+named-at g (b ∷ bs) zero there l = (placed-back g b (there b (in-head b b bs refl))).0
+named-at g (b ∷ bs) (suc i) there l = named-at g bs i (λ c j. there c (in-tail c b bs j)) (omega (arith, l))
+
+-- the module at a place of the order is the one that stands there in byte order
+pub order-named : (g : Graph) (order : List ℕ) (i : ℕ) → order ≡ order_of g → i < length order →
+    (name_at g (slice_index_or order i 0) ≡ slice_index_or (in_byte_order (names g)) i []) ×
+    (i < length (in_byte_order (names g)))
+order-named g order i is l =
+    let long : length order ≡ length (in_byte_order (names g)) = ap length is ∙ length-map (in_byte_order (names g)) (place g) in
+    let there : i < length (in_byte_order (names g)) = omega (arith, l, long) in
+    (ap (λ ps. name_at g (slice_index_or ps i 0)) is ∙
+        named-at g (in_byte_order (names g)) i (λ b j. in_order-among b (names g) j) there, there)

@@ -7,4 +7,6 @@ mod ByName
 mod Following
 mod Levelled
 mod Nearer
+mod Widening
+mod Told
 mod Rows

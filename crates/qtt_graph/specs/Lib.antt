@@ -7,3 +7,4 @@ pub mod Modules
 pub mod Ranking
 pub mod Levels
 pub mod Near
+pub mod Answer

@@ -1,9 +1,9 @@
 -- How near modules are to one that their imports lead to.
-use Rattle.std.specs.Prelude.{◌≡◌, ◌<◌, ◌≤◌, ◌==◌, ℕ, zero, suc, IsTrue, Bool, false, List, length, Option, Some, None, is_some}
+use Rattle.std.specs.Prelude.{◌≡◌, ◌<◌, ◌≤◌, ◌==◌, ℕ, zero, suc, IsTrue, Bool, false, List, length, Option, Some, None, is_some, find}
 use Rattle.std.specs.List.{slice_index_or}
-use Rattle.qtt_graph.specs.Graph.{Name, Graph}
+use Rattle.qtt_graph.specs.Graph.{Name, Graph, below}
 use Rattle.qtt_graph.specs.Ring.{ways, first_of}
-use Rattle.qtt_graph.specs.Modules.{name_at}
+use Rattle.qtt_graph.specs.Modules.{name_at, ArePlaces}
 
 -- a way of n + 1 imports leads from one module to another
 abbrev pub HasWay : Graph → ℕ → Name → Name → Type 0
@@ -25,3 +25,19 @@ is_at k (Some j) = j == k
 abbrev pub goes_on_from : List (Option ℕ) → ℕ → ℕ → ℕ → Bool
 goes_on_from near t zero p = p == t
 goes_on_from near t (suc n) p = is_at n (slice_index_or near p None)
+
+-- the first import of the module at place p from which such a way goes on
+abbrev pub Stepped : Graph → List (Option ℕ) → ℕ → ℕ → ℕ → Option ℕ → Type 0
+Stepped g near t n p found =
+    (row : List ℕ) × ArePlaces g row (below g (name_at g p)) × (found ≡ find (goes_on_from near t n) row)
+
+-- each number that is known is below n
+abbrev pub AllBelow : ℕ → List (Option ℕ) → Type 0
+AllBelow n near = (i k : ℕ) (o : Option ℕ) → i < length near → slice_index_or near i o ≡ Some k → k < n
+
+abbrev pub IsAt : List (Option ℕ) → ℕ → ℕ → Type 0
+IsAt near i k = slice_index_or near i None ≡ Some k
+
+-- the first way of n + 1 imports from the module at place p to that at place t
+abbrev pub IsFirstWay : Graph → ℕ → ℕ → ℕ → List Name → Type 0
+IsFirstWay g n p t way = first_of (ways g n (name_at g p) (name_at g t)) ≡ Some way

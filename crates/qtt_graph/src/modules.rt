@@ -9,7 +9,7 @@ ghost use Rattle.qtt_graph.specs.Levels.{AreRanks, AllRanked};
 ghost use Rattle.qtt_graph.specs.Modules.{graph_of, rows_of, order_of, name_at, ArePlaces};
 
 use crate::places::Places;
-use qtt_base::MemoryError;
+use qtt_base::{MemoryError, Name};
 use qtt_syntax::ModuleText;
 use std::alloc::Global;
 
@@ -45,8 +45,28 @@ impl<'t> Modules<'t> {
             order,
         })
     }
+    pub fn len(&self) -> usize
+        ensures { result ≡ length self.now.texts.now }
+    {
+        self.texts.len()
+    }
+
+    /// The places of all modules, in byte order of their names.
+    pub fn order(&self) -> &[usize]
+        ensures { result.now ≡ order_of (graph_of self.now.texts.now) }
+    {
+        &self.order
+    }
+
+    pub fn name(&self, place: usize) -> Result<Name, MemoryError>
+        requires there { place < length self.now.texts.now }
+        ensures { IfOk result (λ n. n ≡ name_at (graph_of self.now.texts.now) place) }
+    {
+        self.texts[place].name.copy()
+    }
+
     /// The places of the modules that the module at a place imports, in text order.
-    fn imports(&self, place: usize) -> &[usize]
+    pub fn imports(&self, place: usize) -> &[usize]
         requires there { place < length self.now.texts.now }
         ensures { ArePlaces (graph_of self.now.texts.now) result.now
             (below (graph_of self.now.texts.now) (name_at (graph_of self.now.texts.now) place)) }
@@ -82,7 +102,7 @@ impl<'t> Modules<'t> {
         Some(rank)
     }
     /// The rank of each module, or nothing where one of them has none.
-    fn ranks(&self, alloc: Global) -> Result<Option<Vec<usize>>, MemoryError>
+    pub fn ranks(&self, alloc: Global) -> Result<Option<Vec<usize>>, MemoryError>
         ensures { IfOk result (λ r. AllRanked (graph_of self.now.texts.now) r) }
     {
         let mut known = vec![in alloc; None; self.texts.len()]?;
@@ -96,7 +116,7 @@ impl<'t> Modules<'t> {
         Ok(Some(ranks))
     }
     /// The places of the modules of each rank, within a rank in byte order of their names.
-    fn by_rank(&self, alloc: Global, ranks: &Vec<usize>) -> Result<Vec<Vec<u32>>, MemoryError>
+    pub fn by_rank(&self, alloc: Global, ranks: &Vec<usize>) -> Result<Vec<Vec<u32>>, MemoryError>
         requires ranks { AreRanks (graph_of self.now.texts.now) ranks.now.items }
         ensures { IfOk result (λ found. map (λ level. level.items) found.items ≡
             ranked (graph_of self.now.texts.now)) }
