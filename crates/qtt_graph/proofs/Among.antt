@@ -1,5 +1,5 @@
 -- Names among others, and lists in which each name stands once.
-use Rattle.std.proofs.Common.{◌≡◌, ℕ, zero, suc, ◌+◌, ◌≤◌, ◌<◌, Bool, true, false, ◌||◌, ◌&&◌, cond, List, [], ◌∷◌, length, Option, Some, None, refl, sym, ap, ◌∙◌, subst, ◌⊎◌, inl, inr, arith}
+use Rattle.std.proofs.Common.{◌≡◌, suc, ◌≤◌, Bool, true, false, ◌||◌, cond, List, [], ◌∷◌, length, Option, Some, None, refl, sym, ap, ◌∙◌, subst, ◌⊎◌, inl, inr, arith}
 use Rattle.std.proofs.lemmas.Bool.{and_parts, and_from, eqb-true, eq-eqb, or_cases}
 use mathlib.Core.Path.{ap₂}
 use Rattle.qtt_graph.specs.Graph.{Name, same_name, is_among}
@@ -86,7 +86,8 @@ removed-keeps a b [] i n = i
 removed-keeps a b (c ∷ cs) i n =
     by_test (λ j. removed-keeps a b cs j n) (same_name a c) refl (in-cases b c cs i)
   where
-    by_test : (is_among cs b ≡ true → is_among (removed a cs) b ≡ true) → (t : Bool) → same_name a c ≡ t → (b ≡ c) ⊎ (is_among cs b ≡ true) →
+    by_test : (is_among cs b ≡ true → is_among (removed a cs) b ≡ true) → (t : Bool) → same_name a c ≡ t → (b ≡ c) ⊎
+            (is_among cs b ≡ true) →
         is_among (removed a (c ∷ cs)) b ≡ true
     by_test kept true e (inl same) = absurd (cc (sym n ∙ subst (λ d. same_name a d ≡ true) (sym same) e))
     by_test kept true e (inr later) = subst (λ t. is_among (cond t cs (c ∷ removed a cs)) b ≡ true) (sym e) later

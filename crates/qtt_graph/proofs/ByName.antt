@@ -1,5 +1,5 @@
 -- A map from names to places holds the modules in byte order.
-use Rattle.std.proofs.Common.{◌≡◌, ℕ, zero, suc, ◌+◌, ◌<◌, Bool, true, false, ◌||◌, cond, List, [], ◌∷◌, map, length, slice_get, Option, Some, None, refl, sym, ap, ◌∙◌, subst, Bor, Ordering, Less, Equal, Greater}
+use Rattle.std.proofs.Common.{◌≡◌, ℕ, suc, Bool, true, false, ◌||◌, cond, List, [], ◌∷◌, map, slice_get, Option, Some, None, refl, sym, ap, ◌∙◌, subst, Bor, Ordering, Less, Equal, Greater}
 use Rattle.std.specs.Prelude.{option_map, unwrap_or}
 use Rattle.std.specs.Ordering.{nat_cmp, is_eq}
 use Rattle.std.specs.List.{AllByRecursion}
@@ -52,7 +52,7 @@ told : (ns : List Name) (m : tree.BTreeMap (Bor (List ℕ)) ℕ) → tree.IsOrde
     AllByRecursion (Told ns) m.entries
 told ns m ordered found =
     all-by-index (Told ns) m.entries (λ i e h.
-        sym (found (entry_name e)) ∙ btree_map_get_place (on_texts (λ k. k.now)) m i e.0 e.1 ordered h)
+    sym (found (entry_name e)) ∙ btree_map_get_place (on_texts (λ k. k.now)) m i e.0 e.1 ordered h)
 
 -- ---- what has a place is there
 pub place-there : (ns : List Name) (a : Name) (p : ℕ) → place_among ns a ≡ Some p → is_among ns a ≡ true
@@ -65,7 +65,7 @@ place-there (n ∷ ns) a p e = by_test (same_name a n) (place_among ns a) refl r
     by_test false (Some k) d f later = in-tail a n ns (later k f)
     by_test false None d f later =
         absurd (none≢some (sym (ap (λ t. cond t (Some 0) (option_map suc (place_among ns a))) d ∙
-            ap (option_map suc) f) ∙ e))
+        ap (option_map suc) f) ∙ e))
 
 pub there-placed : (ns : List Name) (a : Name) → is_among ns a ≡ true → (p : ℕ) × (place_among ns a ≡ Some p)
 there-placed [] a i = absurd (cc i)
@@ -97,7 +97,8 @@ looked-up q (x ∷ es) p e = by_order (slice_cmp nat_cmp q (entry_name x)) refl 
   where
     passed : (o : Ordering) → slice_cmp nat_cmp q (entry_name x) ≡ o →
         cond (is_eq o) (Some (entry_value x)) (lookup (λ k. is_eq (slice_cmp nat_cmp q k.now)) es) ≡ Some p
-    passed o d = subst (λ r. cond (is_eq r) (Some (entry_value x)) (lookup (λ k. is_eq (slice_cmp nat_cmp q k.now)) es) ≡ Some p) d e
+    passed o d = subst (λ r. cond (is_eq r) (Some (entry_value x)) (lookup (λ k. is_eq
+            (slice_cmp nat_cmp q k.now)) es) ≡ Some p) d e
 
     by_order : (o : Ordering) → slice_cmp nat_cmp q (entry_name x) ≡ o →
         (lookup (λ k. is_eq (slice_cmp nat_cmp q k.now)) es ≡ Some p → is_among (map entry_name es) q ≡ true) →
@@ -124,9 +125,9 @@ values-in-order g m o ordered found =
     let all = told (names g) m ordered found in
     let up = subst Ascends (keys-named m.entries) (ascend (tree.keys m) ordered) in
     let one =
-        ascending-is-one (map entry_name m.entries) (in_byte_order (names g)) up (in_order-ascends (names g) o)
-        (λ q i. among-in_order q (names g) (entries-within (names g) m.entries all q i))
-        (λ q i.
-            let p = there-placed (names g) q (in_order-among q (names g) i) in
-            looked-up q m.entries p.0 (found q ∙ p.1)) in
+    ascending-is-one (map entry_name m.entries) (in_byte_order (names g)) up (in_order-ascends (names g) o)
+    (λ q i. among-in_order q (names g) (entries-within (names g) m.entries all q i))
+    (λ q i.
+    let p = there-placed (names g) q (in_order-among q (names g) i) in
+    looked-up q m.entries p.0 (found q ∙ p.1)) in
     values-placed (names g) m.entries all ∙ ap (map (place g)) one

@@ -1,6 +1,6 @@
 -- Ranks found by following imports.
-use Rattle.std.proofs.Common.{◌≡◌, ℕ, zero, suc, ◌+◌, ◌-◌, ◌≤◌, ◌<◌, Bool, true, false, ◌||◌, cond, List, [], ◌∷◌, ◌++◌, map, length, take, slice_index_or, slice_set, Option, Some, None, refl, sym, ap, ◌∙◌, subst, ◌⊎◌, inl, inr, arith, Ordering, Less, Equal, Greater}
-use Rattle.std.specs.Prelude.{◌==◌, max, option_map, unwrap_or, filter, find}
+use Rattle.std.proofs.Common.{◌≡◌, ℕ, zero, suc, ◌+◌, ◌-◌, ◌≤◌, ◌<◌, Bool, true, false, cond, List, [], ◌∷◌, ◌++◌, map, length, take, slice_index_or, slice_set, Option, Some, None, refl, sym, ap, ◌∙◌, subst, ◌⊎◌, inl, inr, arith, Less, Equal, Greater}
+use Rattle.std.specs.Prelude.{◌==◌, max, option_map, filter, find}
 use Rattle.std.specs.List.{AllByRecursion}
 use Rattle.std.proofs.lemmas.List.{length-map, length-set, take_more, get_or-set_same, get_or-set_other}
 use Rattle.std.specs.Ordering.{ord_max, nat_cmp, is_lt}
@@ -12,9 +12,9 @@ use Rattle.qtt_graph.specs.Ring.{Imports, Leads}
 use Rattle.qtt_graph.specs.Ring.Leads.{by_import, onward}
 use Rattle.qtt_graph.specs.Ranks.{place_among, one_above, rank_within, rank}
 use Rattle.qtt_graph.specs.Laws.{Closed}
-use Rattle.qtt_graph.specs.Modules.{put_found, place_imported, places_imported, rows_of, name_at, ArePlaces}
+use Rattle.qtt_graph.specs.Modules.{put_found, places_imported, rows_of, name_at, ArePlaces}
 use Rattle.qtt_graph.specs.Ranking.{Known}
-use Rattle.qtt_graph.proofs.Among.{none≢some, some-injective, same-is, same-self, in-head, in-tail, in-cases, Once, AllAmong, once-fits}
+use Rattle.qtt_graph.proofs.Among.{none≢some, some-injective, same-is, same-self, in-head, in-tail, in-cases, Once, once-fits}
 use Rattle.qtt_graph.proofs.NamePlaces.{in-at, map-behind}
 use Rattle.qtt_graph.proofs.ByName.{there-placed}
 use Rattle.qtt_graph.proofs.Ranked.{joined, joined-parts, one_above-all, one_above-reached, steps_more, Along, along-leads, along-named}
@@ -27,7 +27,7 @@ one-rank : (g : Graph) (a : Name) (r s : ℕ) → Ranks g a r → Ranks g a s �
 one-rank g a r s (n, e) (m, d) =
     let swap : n + m ≡ m + n = omega arith in
     some-injective (sym (steps_more g m n a r e) ∙
-        subst (λ k. rank_within g k a ≡ Some s) swap (steps_more g n m a s d))
+    subst (λ k. rank_within g k a ≡ Some s) swap (steps_more g n m a s d))
 
 import-ranks : (g : Graph) (a b : Name) (r : ℕ) → Imports g a b → Ranks g a r → (s : ℕ) × Ranks g b s × (s < r)
 import-ranks g a b r i (zero, e) = absurd (none≢some e)
@@ -95,8 +95,8 @@ enough g zero a r e = absurd (none≢some e)
 enough g (suc n) a r e =
     one_above-below (rank_within g n) (rank_within g r) r
     (λ b s d l.
-        let there : (r - suc s) + suc s ≡ r = omega (arith, l) in
-        subst (λ k. rank_within g k b ≡ Some s) there (steps_more g (r - suc s) (suc s) b s (enough g n b s d)))
+    let there : (r - suc s) + suc s ≡ r = omega (arith, l) in
+    subst (λ k. rank_within g k b ≡ Some s) there (steps_more g (r - suc s) (suc s) b s (enough g n b s d)))
     (below g a) r (omega arith) e
 
 pub rank-of_imports : (g : Graph) → Closed g → (a : Name) (r : ℕ) → is_among (names g) a ≡ true →
@@ -105,7 +105,8 @@ rank-of_imports g closed a r i e =
     let k : Ranks g a r = (suc (length g), e) in
     let fits = rank-fits g closed a r i k in
     let there : (length g - suc r) + suc r ≡ length g = omega (arith, fits) in
-    subst (λ n. rank_within g n a ≡ Some r) there (steps_more g (length g - suc r) (suc r) a r (enough g (suc (length g)) a r e))
+    subst (λ n. rank_within g n a ≡ Some r) there (steps_more g (length g - suc r) (suc r) a r (enough g (suc
+            (length g)) a r e))
 
 -- ---- one import without a rank
 pub one_above-unranked : (f : Name → Option ℕ) (ns : List Name) (b : Name) → is_among ns b ≡ true → f b ≡ None →
@@ -150,7 +151,8 @@ max-is a b = by_order (cases_lt b a)
         left ∙ sym (ap (λ t. cond (is_lt (cond t Less (cond (b == a) Equal Greater))) a b) (lt-ltb b a h))
     by_order (inr h) =
         let right : max a b ≡ b = omega (arith, h) in
-        right ∙ sym (ap (λ t. cond (is_lt (cond t Less (cond (b == a) Equal Greater))) a b) (le-ltb b a h) ∙ other (b == a))
+        right ∙ sym (ap (λ t. cond (is_lt (cond t Less (cond (b == a) Equal Greater))) a b) (le-ltb b a h) ∙ other
+                (b == a))
 
 -- ---- rows and names
 pub place-at : (ns : List Name) (a : Name) (p : ℕ) → place_among ns a ≡ Some p →
@@ -163,14 +165,15 @@ place-at (n ∷ ns) a p e = by_test (same_name a n) (place_among ns a) refl refl
         ((q : ℕ) → place_among ns a ≡ Some q → (slice_index_or ns q [] ≡ a) × (q < length ns)) →
         (slice_index_or (n ∷ ns) p [] ≡ a) × (p < length (n ∷ ns))
     by_test true o d f p e later =
-        let first : 0 ≡ p = some-injective (sym (ap (λ t. cond t (Some 0) (option_map suc (place_among ns a))) d) ∙ e) in
+        let first : 0 ≡ p = some-injective (sym (ap (λ t. cond t (Some 0) (option_map suc (place_among ns a))) d) ∙
+                e) in
         (subst (λ q. slice_index_or (n ∷ ns) q [] ≡ a) first (sym (same-is a n d)), omega (arith, first))
     by_test false None d f p e later =
         absurd (none≢some (sym (ap (λ t. cond t (Some 0) (option_map suc (place_among ns a))) d ∙
-            ap (option_map suc) f) ∙ e))
+        ap (option_map suc) f) ∙ e))
     by_test false (Some q) d f p e later =
         let next : suc q ≡ p = some-injective (sym (ap (λ t. cond t (Some 0) (option_map suc (place_among ns a))) d ∙
-                ap (option_map suc) f) ∙ e) in
+        ap (option_map suc) f) ∙ e) in
         let r = later q f in
         (subst (λ j. slice_index_or (n ∷ ns) j [] ≡ a) next r.0, omega (arith, next, r.1))
 
@@ -189,7 +192,8 @@ row-named ns [] there = (refl, tt)
 row-named ns (i ∷ is) there = by_test (counts i) refl (row-named ns is)
   where
     by_place : (o : Option ℕ) → place_among ns i.name ≡ o → Named ns (places_imported ns is) (kept is) →
-        is_among ns i.name ≡ true → Named ns (put_found (place_among ns i.name) (places_imported ns is)) (i.name ∷ kept is)
+        is_among ns i.name ≡ true → Named ns (put_found (place_among ns i.name) (places_imported ns is))
+                (i.name ∷ kept is)
     by_place None d later here = absurd (none≢some (sym d ∙ (there-placed ns i.name here).1))
     by_place (Some p) d later here =
         let at = place-at ns i.name p d in
@@ -197,20 +201,23 @@ row-named ns (i ∷ is) there = by_test (counts i) refl (row-named ns is)
         (ap₂ (λ b bs. b ∷ bs) at.0 later.0, (at.1, later.1))
 
     by_test : (t : Bool) → counts i ≡ t →
-        (((b : Name) → is_among (kept is) b ≡ true → is_among ns b ≡ true) → Named ns (places_imported ns is) (kept is)) →
+        (((b : Name) → is_among (kept is) b ≡ true → is_among ns b ≡ true) → Named ns (places_imported ns is)
+                (kept is)) →
         Named ns (places_imported ns (i ∷ is)) (kept (i ∷ is))
     by_test true e further =
-        let all = subst (λ t. (b : Name) → is_among (map import_name (cond t (i ∷ filter counts is) (filter counts is))) b ≡ true →
-                is_among ns b ≡ true) e there in
+        let all = subst (λ t. (b : Name) → is_among (map import_name (cond t (i ∷ filter counts is)
+                (filter counts is))) b ≡ true →
+        is_among ns b ≡ true) e there in
         subst (λ t. Named ns (put_found (cond t (place_among ns i.name) None) (places_imported ns is))
-            (map import_name (cond t (i ∷ filter counts is) (filter counts is)))) (sym e)
+        (map import_name (cond t (i ∷ filter counts is) (filter counts is)))) (sym e)
         (by_place (place_among ns i.name) refl (further (λ b j. all b (in-tail b i.name (kept is) j)))
-            (all i.name (in-head i.name i.name (kept is) refl)))
+        (all i.name (in-head i.name i.name (kept is) refl)))
     by_test false e further =
-        let all = subst (λ t. (b : Name) → is_among (map import_name (cond t (i ∷ filter counts is) (filter counts is))) b ≡ true →
-                is_among ns b ≡ true) e there in
+        let all = subst (λ t. (b : Name) → is_among (map import_name (cond t (i ∷ filter counts is)
+                (filter counts is))) b ≡ true →
+        is_among ns b ≡ true) e there in
         subst (λ t. Named ns (put_found (cond t (place_among ns i.name) None) (places_imported ns is))
-            (map import_name (cond t (i ∷ filter counts is) (filter counts is)))) (sym e) (further all)
+        (map import_name (cond t (i ∷ filter counts is) (filter counts is)))) (sym e) (further all)
 
 -- names that differ lead to their own headers
 find-at : (g : Graph) (i : ℕ) (d : Header) → Once (names g) → i < length g →
@@ -249,9 +256,11 @@ row-is (k ∷ ks) closed o i h =
     let g : Graph = k ∷ ks in
     let header = slice_index_or g i k in
     let there = imports-at g i k o h in
-    let named = row-named (names g) header.imports (λ b j. closed (name_at g i) b (subst (λ bs. is_among bs b ≡ true) (sym there) j)) in
+    let named = row-named (names g) header.imports (λ b j. closed (name_at g i) b (subst (λ bs. is_among bs b ≡ true)
+            (sym there) j)) in
     subst (λ bs. Named (names g) (slice_index_or (rows_of g) i []) bs) (sym there)
-    (subst (λ row. Named (names g) row (kept header.imports)) (sym (row-at (λ h. places_imported (names g) h.imports) g i k h)) named)
+    (subst (λ row. Named (names g) row (kept header.imports)) (sym (row-at (λ h. places_imported
+            (names g) h.imports) g i k h)) named)
 
 -- ---- following the imports of a module, by their places
 pub within-at : (n : ℕ) (row : List ℕ) (i : ℕ) → Within n row → i < length row → slice_index_or row i 0 < n
@@ -297,7 +306,7 @@ pub rank-done : (g : Graph) → Closed g → (row : List ℕ) (p r : ℕ) → p 
 rank-done g closed row p r l named e =
     rank-of_imports g closed (name_at g p) r (at-place g p l)
     (ap (λ bs. one_above (map (rank g) bs)) (sym named.named) ∙
-        ap one_above (map-map (rank g) (name_at g) row) ∙ e)
+    ap one_above (map-map (rank g) (name_at g) row) ∙ e)
 
 pub known-set : (g : Graph) (known : List (Option ℕ)) (p r : ℕ) → p < length known →
     rank g (name_at g p) ≡ Some r → Known g known → Known g (slice_set known p (Some r))
@@ -306,7 +315,8 @@ known-set g known p r l e k = record {
   ranks = λ i s o h d. by_case i s o (subst (λ n. i < n) (length-set known p (Some r)) h) d (cases_eq i p);
 }
   where
-    by_case : (i s : ℕ) (o : Option ℕ) → i < length known → slice_index_or (slice_set known p (Some r)) i o ≡ Some s → (i ≡ p) ⊎ (i ≡ p → ⊥) →
+    by_case : (i s : ℕ) (o : Option ℕ) → i < length known → slice_index_or (slice_set known p (Some r)) i o ≡
+            Some s → (i ≡ p) ⊎ (i ≡ p → ⊥) →
         rank g (name_at g i) ≡ Some s
     by_case i s o h d (inl same) =
         let there = subst (λ j. slice_index_or (slice_set known p (Some r)) j o ≡ Some s) same d in
@@ -324,11 +334,12 @@ mapped items (r ∷ rows) (suc i) d l = mapped items rows i d (omega (arith, l))
 abbrev row_of : Graph → Header → List ℕ
 row_of g h = places_imported (names g) h.imports
 
-pub row-in : {A : Type 0} (items : A → List ℕ) (rows : List A) (g : Graph) (i : ℕ) (d : A) → map items rows ≡ rows_of g →
+pub row-in : {A : Type 0} (items : A → List ℕ) (rows : List A) (g : Graph) (i : ℕ) (d : A) → map items rows ≡
+        rows_of g →
     i < length g → items (slice_index_or rows i d) ≡ slice_index_or (rows_of g) i []
 row-in items rows g i d is l =
     let long : length rows ≡ length g =
-            sym (length-map rows items) ∙ ap length is ∙ length-map g (row_of g) in
+    sym (length-map rows items) ∙ ap length is ∙ length-map g (row_of g) in
     sym (mapped items rows i d (omega (arith, l, long))) ∙ ap (λ rs. slice_index_or rs i []) is
 
 within-fewer : (n m : ℕ) (row : List ℕ) → n ≡ m → Within n row → Within m row

@@ -1,16 +1,16 @@
 -- Places by their ranks are the modules by theirs.
-use Rattle.std.proofs.Common.{◌≡◌, ℕ, zero, suc, ◌+◌, ◌-◌, ◌≤◌, ◌<◌, Bool, true, false, not, cond, List, [], ◌∷◌, ◌++◌, map, length, replicate, take, slice_index_or, slice_set, Option, Some, None, refl, sym, ap, ◌∙◌, subst, ◌⊎◌, inl, inr, arith}
+use Rattle.std.proofs.Common.{◌≡◌, ℕ, zero, suc, ◌+◌, ◌<◌, Bool, true, false, cond, List, [], ◌∷◌, ◌++◌, map, length, replicate, take, slice_index_or, slice_set, refl, sym, ap, ◌∙◌, subst, arith}
 use Rattle.std.specs.Prelude.{◌==◌, filter, unwrap_or}
 use Rattle.std.specs.Option.{option_map_or}
-use Rattle.std.proofs.lemmas.Bool.{cases_eq, eqb-true, ne_eqb, eq-eqb}
+use Rattle.std.proofs.lemmas.Bool.{ne_eqb, eq-eqb}
 use Rattle.std.proofs.lemmas.List.{length-map, map-set, take_more}
 use mathlib.Core.Path.{ap₂}
 use Rattle.qtt_graph.specs.Graph.{Name, Graph, header_name, names, is_among, in_byte_order}
-use Rattle.qtt_graph.specs.Ranks.{place_among, place, rank, has_rank, of_rank, put_first, by_rank, ranked}
+use Rattle.qtt_graph.specs.Ranks.{place, rank, has_rank, of_rank, put_first, by_rank, ranked}
 use Rattle.qtt_graph.specs.Laws.{Closed}
 use Rattle.qtt_graph.specs.Modules.{order_of, name_at}
 use Rattle.qtt_graph.specs.Levels.{AreRanks, has, levels}
-use Rattle.qtt_graph.proofs.Among.{none≢some, in-head, in-tail}
+use Rattle.qtt_graph.proofs.Among.{in-head, in-tail}
 use Rattle.qtt_graph.proofs.Order.{in_order-among}
 use Rattle.qtt_graph.proofs.ByName.{there-placed}
 use Rattle.qtt_graph.proofs.Following.{place-at, rank-below, mapped}
@@ -98,10 +98,12 @@ filtered g ranks r each (b ∷ bs) there =
         (filter (has ranks r) (map (place g) bs)) ≡
         map (place g) (cond t (b ∷ filter (has_rank g r) bs) (filter (has_rank g r) bs))
     by_test true e later =
-        ap (λ t. cond t (place g b ∷ filter (has ranks r) (map (place g) bs)) (filter (has ranks r) (map (place g) bs))) e ∙
+        ap (λ t. cond t (place g b ∷ filter (has ranks r) (map (place g) bs)) (filter (has ranks r) (map
+                (place g) bs))) e ∙
         ap (λ ps. place g b ∷ ps) later
     by_test false e later =
-        ap (λ t. cond t (place g b ∷ filter (has ranks r) (map (place g) bs)) (filter (has ranks r) (map (place g) bs))) e ∙
+        ap (λ t. cond t (place g b ∷ filter (has ranks r) (map (place g) bs)) (filter (has ranks r) (map
+                (place g) bs))) e ∙
         later
 
 -- the levels that are not empty
@@ -151,7 +153,8 @@ placed-at g (b ∷ bs) (suc i) there l = placed-at g bs i (λ c j. there c (in-t
 pub order-at : (g : Graph) (order : List ℕ) (i : ℕ) → order ≡ order_of g → i < length order →
     slice_index_or order i 0 < length g
 order-at g order i is l =
-    let long : length order ≡ length (in_byte_order (names g)) = ap length is ∙ length-map (in_byte_order (names g)) (place g) in
+    let long : length order ≡ length (in_byte_order (names g)) = ap length is ∙ length-map (in_byte_order (names g))
+            (place g) in
     subst (λ ps. slice_index_or ps i 0 < length g) (sym is)
     (placed-at g (in_byte_order (names g)) i (λ b j. in_order-among b (names g) j) (omega (arith, l, long)))
 
@@ -165,18 +168,20 @@ pub put-step : {A : Type 0} (items : A → List ℕ) (before : List A) (level : 
     map items before ≡ levels ranks (take k order) 0 n →
     held ≡ slice_index_or before (rank_at ranks (slice_index_or order k 0)) held → number ≡ slice_index_or order k 0 →
     items level ≡ items held ++ number ∷ [] →
-    map items (slice_set before (rank_at ranks (slice_index_or order k 0)) level) ≡ levels ranks (take (k + 1) order) 0 n
+    map items (slice_set before (rank_at ranks (slice_index_or order k 0)) level) ≡ levels ranks (take
+            (k + 1) order) 0 n
 put-step items before level ranks order k n held number l low so there-held is-number is =
     let p = slice_index_or order k 0 in
     let r = rank_at ranks p in
     let there : r < length before =
-            subst (λ m. r < m) (sym (sym (length-map before items) ∙ ap length so ∙ levels-length ranks (take k order) 0 n)) low in
+    subst (λ m. r < m) (sym (sym (length-map before items) ∙ ap length so ∙ levels-length ranks
+            (take k order) 0 n)) low in
     map-set items before r level ∙ ap (slice_set (map items before) r) (is ∙
-        ap (λ q. items held ++ q ∷ []) is-number ∙
-        ap (λ q. q ++ p ∷ []) (ap items there-held ∙ sym (mapped items before r held there))) ∙
+    ap (λ q. items held ++ q ∷ []) is-number ∙
+    ap (λ q. q ++ p ∷ []) (ap items there-held ∙ sym (mapped items before r held there))) ∙
     ap (λ ls. put_behind ls r p) so ∙
     sym (ap (λ ps. levels ranks ps 0 n) (take_more order k 0 l) ∙
-        levels-step ranks (take k order) p 0 n r (omega arith) low)
+    levels-step ranks (take k order) p 0 n r (omega arith) low)
 
 -- what is not empty is what is put in front
 abbrev pub is_filled : List ℕ → Bool
@@ -191,14 +196,14 @@ filled-kept items (l ∷ ls) = by_items (items l) refl (filled-kept items ls)
     by_items : (ps : List ℕ) → items l ≡ ps →
         map items (filter (λ l. is_filled (items l)) ls) ≡ filled (map items ls) →
         map items (cond (is_filled (items l)) (l ∷ filter (λ l. is_filled (items l)) ls)
-            (filter (λ l. is_filled (items l)) ls)) ≡ put_first (items l) (filled (map items ls))
+        (filter (λ l. is_filled (items l)) ls)) ≡ put_first (items l) (filled (map items ls))
     by_items [] e later =
         ap (λ ps. map items (cond (is_filled ps) (l ∷ filter (λ l. is_filled (items l)) ls)
-                (filter (λ l. is_filled (items l)) ls))) e ∙
+        (filter (λ l. is_filled (items l)) ls))) e ∙
         later ∙ sym (ap (λ ps. put_first ps (filled (map items ls))) e)
     by_items (p ∷ ps) e later =
         ap (λ qs. map items (cond (is_filled qs) (l ∷ filter (λ l. is_filled (items l)) ls)
-                (filter (λ l. is_filled (items l)) ls))) e ∙
+        (filter (λ l. is_filled (items l)) ls))) e ∙
         ap₂ (λ q qs. q ∷ qs) e later ∙ sym (ap (λ qs. put_first qs (filled (map items ls))) e)
 
 named-at : (g : Graph) (bs : List Name) (i : ℕ) → ((b : Name) → is_among bs b ≡ true → is_among (names g) b ≡ true) →
@@ -212,7 +217,10 @@ pub order-named : (g : Graph) (order : List ℕ) (i : ℕ) → order ≡ order_o
     (name_at g (slice_index_or order i 0) ≡ slice_index_or (in_byte_order (names g)) i []) ×
     (i < length (in_byte_order (names g)))
 order-named g order i is l =
-    let long : length order ≡ length (in_byte_order (names g)) = ap length is ∙ length-map (in_byte_order (names g)) (place g) in
-    let there : i < length (in_byte_order (names g)) = omega (arith, l, long) in
-    (ap (λ ps. name_at g (slice_index_or ps i 0)) is ∙
-        named-at g (in_byte_order (names g)) i (λ b j. in_order-among b (names g) j) there, there)
+    let long : length order ≡ length (in_byte_order (names g)) = ap length is ∙ length-map (in_byte_order (names g))
+            (place g) in
+    let there : i < length (in_byte_order (names g)) = omega (arith, l, long) in (
+      ap (λ ps. name_at g (slice_index_or ps i 0)) is ∙
+          named-at g (in_byte_order (names g)) i (λ b j. in_order-among b (names g) j) there,
+      there,
+    )

@@ -1,15 +1,15 @@
 -- Ways go on from the modules that are one import nearer.
-use Rattle.std.proofs.Common.{◌≡◌, ℕ, zero, suc, ◌+◌, ◌-◌, ◌≤◌, ◌<◌, Bool, true, false, ◌||◌, cond, List, [], ◌∷◌, ◌++◌, map, length, slice_index_or, slice_set, Option, Some, None, refl, sym, ap, ◌∙◌, subst, ◌⊎◌, inl, inr, arith}
+use Rattle.std.proofs.Common.{◌≡◌, ℕ, zero, suc, ◌≤◌, ◌<◌, Bool, true, false, ◌||◌, cond, List, [], ◌∷◌, ◌++◌, map, length, slice_index_or, Option, Some, None, refl, sym, ap, ◌∙◌, subst, ◌⊎◌, inl, inr, arith}
 use Rattle.std.specs.Prelude.{◌==◌, filter, find, flat_map, is_some}
 use Rattle.std.specs.List.{AllByRecursion}
-use Rattle.std.proofs.lemmas.Bool.{cases_eq, cases_lt, eqb-true, eq-eqb, ne_eqb}
-use Rattle.std.proofs.lemmas.List.{length-map, length-set, get_or-set_same, get_or-set_other}
+use Rattle.std.proofs.lemmas.Bool.{cases_eq, eqb-true, eq-eqb, ne_eqb}
+use Rattle.std.proofs.lemmas.List.{length-map}
 use Rattle.std.proofs.lemmas.List.Concat.{flat_map-cons}
 use Rattle.qtt_graph.specs.Graph.{Name, Graph, header_name, below, names, same_name, is_among}
 use Rattle.qtt_graph.specs.Ring.{Imports, first_of, ways}
 use Rattle.qtt_graph.specs.Modules.{name_at, ArePlaces}
-use Rattle.qtt_graph.specs.Near.{HasWay, Near, is_at, goes_on_from}
-use Rattle.qtt_graph.proofs.Among.{none≢some, some-injective, same-is, same-self, in-head, in-tail, Once}
+use Rattle.qtt_graph.specs.Near.{HasWay, is_at, goes_on_from}
+use Rattle.qtt_graph.proofs.Among.{none≢some, some-injective, same-is, in-head, in-tail, Once}
 use Rattle.qtt_graph.proofs.NamePlaces.{in-at}
 use Rattle.qtt_graph.proofs.Following.{Within}
 use Rattle.qtt_graph.proofs.Rings.{First, first-map, map-first, first-of_all, of_all-first, one-way, way-one}
@@ -27,7 +27,7 @@ first-way (w ∷ ws) p = refl
 pub way-on : (g : Graph) (k : ℕ) (a c b : Name) → Imports g a c → HasWay g k c b → HasWay g (suc k) a b
 way-on g k a c b i w =
     first-way _ (first-map (λ way. a ∷ way) _
-        (first-of_all (λ d. ways g k d b) c (below g a) i (way-first _ w)))
+    (first-of_all (λ d. ways g k d b) c (below g a) i (way-first _ w)))
 
 pub way-next : (g : Graph) (k : ℕ) (a b : Name) → HasWay g (suc k) a b → (c : Name) × Imports g a c × HasWay g k c b
 way-next g k a b w =
@@ -77,9 +77,10 @@ found-first h test (p ∷ row) d tells e = by_test (test p) refl (found-first h 
         (find test row ≡ Some d → (first_of (flat_map h row) ≡ first_of (h d)) × (test d ≡ true)) →
         (first_of (flat_map h (p ∷ row)) ≡ first_of (h d)) × (test d ≡ true)
     by_test true f later =
-        let same : p ≡ d = some-injective (sym (ap (λ t. cond t (Some p) (find test row)) f) ∙ e) in
-        (ap first_of (flat_map-cons h p row) ∙ left (h p) (sym tells.0 ∙ f) ∙ ap (λ q. first_of (h q)) same,
-            subst (λ q. test q ≡ true) same f)
+        let same : p ≡ d = some-injective (sym (ap (λ t. cond t (Some p) (find test row)) f) ∙ e) in (
+          ap first_of (flat_map-cons h p row) ∙ left (h p) (sym tells.0 ∙ f) ∙ ap (λ q. first_of (h q)) same,
+          subst (λ q. test q ≡ true) same f,
+        )
     by_test false f later =
         let rest = later (sym (ap (λ t. cond t (Some p) (find test row)) f) ∙ e) in
         (ap first_of (flat_map-cons h p row) ∙ right (h p) (sym tells.0 ∙ f) ∙ rest.0, rest.1)
@@ -126,7 +127,7 @@ tells-one g b m near c p known none i l = by_value (slice_index_or near p None) 
                 by_order (inl same) = absurd (other (is ∙ ap Some same))
                 by_order (inr less) =
                     absurd (none (suc j) (omega (arith, low, less))
-                        (way-on g j c (name_at g p) b i (known.there p j None l is)))
+                    (way-on g j c (name_at g p) b i (known.there p j None l is)))
 
     by_value : (o : Option ℕ) → slice_index_or near p None ≡ o →
         is_at m (slice_index_or near p None) ≡ is_some (first_of (ways g m (name_at g p) b))
@@ -203,7 +204,8 @@ among-row g t (p ∷ row) o l w i e = by_test (p == t) refl (among-row g t row o
     long = length-map g header_name
 
     by_name : (s : Bool) → same_name (name_at g t) (name_at g p) ≡ s → (p == t) ≡ false →
-        (is_among (map (name_at g) row) (name_at g t) ≡ true → find (λ p. p == t) row ≡ None → ⊥) → find (λ p. p == t) row ≡ None → ⊥
+        (is_among (map (name_at g) row) (name_at g t) ≡ true → find (λ p. p == t) row ≡ None → ⊥) → find
+                (λ p. p == t) row ≡ None → ⊥
     by_name true s f later n =
         let same = one-place (names g) t p o (omega (arith, l, long)) (omega (arith, w.0, long)) (same-is _ _ s) in
         absurd (cc (sym f ∙ eq-eqb p t (sym same)))
@@ -246,16 +248,16 @@ pub none-goes-on : (g : Graph) (t n : ℕ) (near : List (Option ℕ)) (c : Name)
 none-goes-on g t zero near c row o l known none places e w =
     among-row g t row o l places.within
     (subst (λ bs. is_among bs (name_at g t) ≡ true) (sym places.named)
-        (way-one c (name_at g t) (below g c) (way-first _ w)))
+    (way-one c (name_at g t) (below g c) (way-first _ w)))
     e
 none-goes-on g t (suc m) near c row o l known none places e w =
     let tells = tells-all g (name_at g t) m t near c row known none (all-imported g row c places) places.within in
     let nothing = nothing-first (λ p. ways g m (name_at g p) (name_at g t)) row
-            (told-none _ (goes_on_from near t (suc m)) row tells (all-none (goes_on_from near t (suc m)) row e)) in
+    (told-none _ (goes_on_from near t (suc m)) row tells (all-none (goes_on_from near t (suc m)) row e)) in
     let same = ap (λ bs. flat_map (λ d. ways g m d (name_at g t)) bs) (sym places.named) ∙
-            flat-named (λ d. ways g m d (name_at g t)) (name_at g) row in
+    flat-named (λ d. ways g m d (name_at g t)) (name_at g) row in
     cc (sym w ∙ no-map c (flat_map (λ d. ways g m d (name_at g t)) (below g c))
-        (ap (λ ws. is_some (first_of ws)) same ∙ nothing))
+    (ap (λ ws. is_some (first_of ws)) same ∙ nothing))
 
 -- the module that is found is the next one of the first way
 pub record GoesOn (g : Graph) (t n : ℕ) (near : List (Option ℕ)) (c : Name) (d : ℕ) : Type 0 where
@@ -289,7 +291,7 @@ one-goes-on g t (suc m) near c row d o l known none places e =
     let found = found-first (λ p. ways g m (name_at g p) b) test row d tells e in
     let at = at-value m (slice_index_or near d None) found.1 in
     let same = ap (λ bs. flat_map (λ q. ways g m q b) bs) (sym places.named) ∙
-            flat-named (λ q. ways g m q b) (name_at g) row in
+    flat-named (λ q. ways g m q b) (name_at g) row in
     record {
       way = way-on g m c (name_at g d) b imports (known.there d m None within at);
       last = λ z. absurd (omega (arith, z));

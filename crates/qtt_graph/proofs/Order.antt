@@ -1,11 +1,11 @@
 -- Names in byte order.
-use Rattle.std.proofs.Common.{◌≡◌, ℕ, Bool, true, false, ◌||◌, cond, List, [], ◌∷◌, refl, sym, ap, ◌∙◌, subst, ◌⊎◌, inl, inr, Ordering, Less, Equal, Greater}
+use Rattle.std.proofs.Common.{◌≡◌, Bool, true, false, cond, List, [], ◌∷◌, refl, sym, ap, ◌∙◌, subst, ◌⊎◌, inl, inr, Ordering, Less, Equal, Greater}
 use Rattle.std.specs.Ordering.{nat_cmp, is_le, is_eq, ordering_reverse}
 use Rattle.std.specs.List.{AllByRecursion}
 use Rattle.std.specs.Cmp.Lexicographic.{slice_cmp, nat_list_cmp_total, texts_ties}
 use mathlib.Core.Path.{ap₂}
-use Rattle.qtt_graph.specs.Graph.{Name, same_name, is_among, in_front, inserted, in_byte_order}
-use Rattle.qtt_graph.proofs.Among.{same-is, same-self, in-head, in-tail, in-cases, Once}
+use Rattle.qtt_graph.specs.Graph.{Name, is_among, in_front, inserted, in_byte_order}
+use Rattle.qtt_graph.proofs.Among.{same-is, in-head, in-tail, in-cases, Once}
 
 abbrev pub compared : Name → Name → Ordering
 compared = slice_cmp nat_cmp
@@ -113,7 +113,7 @@ inserted-among q a (n ∷ ns) i = by_test (inserted-among q a ns) (in_front a n)
     by_test later true e = subst (λ t. is_among (cond t (a ∷ n ∷ ns) (n ∷ inserted a ns)) q ≡ true) e i
     by_test later false e =
         deeper later (in-cases q n (inserted a ns)
-            (subst (λ t. is_among (cond t (a ∷ n ∷ ns) (n ∷ inserted a ns)) q ≡ true) e i))
+        (subst (λ t. is_among (cond t (a ∷ n ∷ ns) (n ∷ inserted a ns)) q ≡ true) e i))
 
 pub in_order-among : (q : Name) (ns : List Name) → is_among (in_byte_order ns) q ≡ true → is_among ns q ≡ true
 in_order-among q [] i = i

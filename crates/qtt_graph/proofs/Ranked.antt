@@ -5,7 +5,7 @@ use Rattle.std.specs.Option.{option_and_then}
 use Rattle.std.proofs.lemmas.Bool.{cases_lt}
 use Rattle.std.proofs.lemmas.List.{length-map}
 use Rattle.qtt_graph.specs.Graph.{Name, Graph, header_name, below, names, is_among}
-use Rattle.qtt_graph.specs.Ring.{Imports, Leads, ring}
+use Rattle.qtt_graph.specs.Ring.{Imports, Leads}
 use Rattle.qtt_graph.specs.Ring.Leads.{by_import, onward}
 use Rattle.qtt_graph.specs.Ranks.{one_above, rank_within, rank}
 use Rattle.qtt_graph.specs.Laws.{Closed, IsRank, RanksAreAbove}
@@ -34,7 +34,8 @@ pub one_above-none : (f : Name → Option ℕ) (ns : List Name) → one_above (m
 one_above-none f [] e = absurd (none≢some (sym e))
 one_above-none f (n ∷ ns) e = by_part (one_above-none f ns) (joined-none (f n) (one_above (map f ns)) e)
   where
-    by_part : (one_above (map f ns) ≡ None → Unranked f ns) → (f n ≡ None) ⊎ (one_above (map f ns) ≡ None) → Unranked f (n ∷ ns)
+    by_part : (one_above (map f ns) ≡ None → Unranked f ns) → (f n ≡ None) ⊎ (one_above (map f ns) ≡ None) →
+            Unranked f (n ∷ ns)
     by_part further (inl here) = (n, in-head n n ns refl, here)
     by_part further (inr later) = let r = further later in (r.0, in-tail r.0 n ns r.1, r.2)
 
@@ -60,7 +61,8 @@ one_above-all f [] r e b i = absurd (cc i)
 one_above-all f (n ∷ ns) r e b i =
     by_case (λ k d j. one_above-all f ns k d b j) (joined-parts (f n) (one_above (map f ns)) r e) (in-cases b n ns i)
   where
-    by_case : ((k : ℕ) → one_above (map f ns) ≡ Some k → is_among ns b ≡ true → Below f k b) → (m : ℕ) × (k : ℕ) × (f n ≡ Some m) × (one_above (map f ns) ≡ Some k) × (max (suc m) k ≡ r) →
+    by_case : ((k : ℕ) → one_above (map f ns) ≡ Some k → is_among ns b ≡ true → Below f k b) → (m : ℕ) × (k : ℕ) ×
+            (f n ≡ Some m) × (one_above (map f ns) ≡ Some k) × (max (suc m) k ≡ r) →
         (b ≡ n) ⊎ (is_among ns b ≡ true) → Below f r b
     by_case further (m, k, here, rest, is) (inl same) =
         let left = max-left (suc m) k in
@@ -100,7 +102,8 @@ one_above-more f g more [] r e = e
 one_above-more f g more (n ∷ ns) r e =
     by_parts (one_above-more f g more ns) (joined-parts (f n) (one_above (map f ns)) r e)
   where
-    by_parts : ((k : ℕ) → one_above (map f ns) ≡ Some k → one_above (map g ns) ≡ Some k) → (m : ℕ) × (k : ℕ) × (f n ≡ Some m) × (one_above (map f ns) ≡ Some k) × (max (suc m) k ≡ r) →
+    by_parts : ((k : ℕ) → one_above (map f ns) ≡ Some k → one_above (map g ns) ≡ Some k) → (m : ℕ) × (k : ℕ) × (f n ≡
+            Some m) × (one_above (map f ns) ≡ Some k) × (max (suc m) k ≡ r) →
         joined (g n) (one_above (map g ns)) ≡ Some r
     by_parts further (m, k, here, rest, is) =
         ap (λ o. joined o (one_above (map g ns))) (more n m here) ∙

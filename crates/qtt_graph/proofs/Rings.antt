@@ -1,15 +1,15 @@
 -- A ring is told exactly where a module leads to itself.
-use Rattle.std.proofs.Common.{◌≡◌, ◌↔◌, ℕ, zero, suc, ◌+◌, ◌≤◌, ◌<◌, Bool, true, false, ◌||◌, cond, List, [], ◌∷◌, ◌++◌, map, length, Option, Some, None, refl, sym, ap, ◌∙◌, subst, ◌⊎◌, inl, inr, arith}
+use Rattle.std.proofs.Common.{◌≡◌, ℕ, zero, suc, ◌+◌, ◌≤◌, ◌<◌, Bool, true, false, ◌||◌, cond, List, [], ◌∷◌, ◌++◌, map, length, Option, Some, None, refl, sym, ap, ◌∙◌, subst, ◌⊎◌, inl, inr, arith}
 use Rattle.std.specs.Prelude.{filter, find, flat_map}
 use Rattle.std.specs.Option.{option_or}
-use Rattle.std.proofs.lemmas.Bool.{cases_eq, eqb-true}
+use Rattle.std.proofs.lemmas.Bool.{cases_eq}
 use Rattle.std.proofs.lemmas.List.{length-map}
 use Rattle.std.proofs.lemmas.List.Concat.{flat_map-cons}
-use Rattle.qtt_graph.specs.Graph.{Name, Header, Graph, header_name, import_name, imports_in, imports_of, below, names, same_name, is_among, in_front, inserted, in_byte_order}
+use Rattle.qtt_graph.specs.Graph.{Name, Header, Graph, header_name, import_name, imports_in, below, names, same_name, is_among, in_front, inserted, in_byte_order}
 use Rattle.qtt_graph.specs.Ring.{Imports, Leads, first_of, ways, way_back, first_ring, ring}
 use Rattle.qtt_graph.specs.Ring.Leads.{by_import, onward}
 use Rattle.qtt_graph.specs.Laws.{RingsAreTold}
-use Rattle.qtt_graph.proofs.Among.{none≢some, same-is, same-self, in-head, in-tail, in-cases, Once, AllAmong, once-fits}
+use Rattle.qtt_graph.proofs.Among.{none≢some, same-is, in-head, in-tail, in-cases, Once, AllAmong, once-fits}
 
 -- ---- ways as lists of what they pass
 abbrev pub Way : Graph → Name → List Name → Name → Type 0
@@ -64,7 +64,8 @@ named : (g : Graph) (a b : Name) → ImportsThere g a b → is_among (names g) a
 named [] a b i = absurd (cc i)
 named (h ∷ hs) a b i = by_test (named hs a b) (same_name h.name a) refl
   where
-    by_test : (ImportsThere hs a b → is_among (names hs) a ≡ true) → (t : Bool) → same_name h.name a ≡ t → is_among (names (h ∷ hs)) a ≡ true
+    by_test : (ImportsThere hs a b → is_among (names hs) a ≡ true) → (t : Bool) → same_name h.name a ≡ t → is_among
+            (names (h ∷ hs)) a ≡ true
     by_test later true e = in-head a h.name (names hs) (sym (same-is h.name a e))
     by_test later false e =
         in-tail a h.name (names hs)
@@ -107,7 +108,8 @@ first-of_all h c [] i p = absurd (cc i)
 first-of_all h c (n ∷ ns) i p =
     subst First (sym (flat_map-cons h n ns)) (by_case (λ j. first-of_all h c ns j p) (in-cases c n ns i))
   where
-    by_case : (is_among ns c ≡ true → First (flat_map h ns)) → (c ≡ n) ⊎ (is_among ns c ≡ true) → First (h n ++ flat_map h ns)
+    by_case : (is_among ns c ≡ true → First (flat_map h ns)) → (c ≡ n) ⊎ (is_among ns c ≡ true) → First
+            (h n ++ flat_map h ns)
     by_case further (inl e) = first-left (h n) (flat_map h ns) (subst (λ d. First (h d)) e p)
     by_case further (inr later) = first-right (h n) (flat_map h ns) (further later)
 
@@ -143,11 +145,12 @@ pub way-one : (a b : Name) (ns : List Name) → First (single a (filter (same_na
 way-one a b [] p = absurd (none≢some p.1)
 way-one a b (n ∷ ns) p = by_test (way-one a b ns) (same_name b n) refl
   where
-    by_test : (First (single a (filter (same_name b) ns)) → is_among ns b ≡ true) → (t : Bool) → same_name b n ≡ t → is_among (n ∷ ns) b ≡ true
+    by_test : (First (single a (filter (same_name b) ns)) → is_among ns b ≡ true) → (t : Bool) → same_name b n ≡ t →
+            is_among (n ∷ ns) b ≡ true
     by_test later true e = in-head b n ns (same-is b n e)
     by_test later false e =
         in-tail b n ns (later
-            (subst (λ t. First (single a (cond t (n ∷ filter (same_name b) ns) (filter (same_name b) ns)))) e p))
+        (subst (λ t. First (single a (cond t (n ∷ filter (same_name b) ns) (filter (same_name b) ns)))) e p))
 
 -- ---- ways that are listed
 pub listed : (g : Graph) (a b : Name) (cs : List Name) → Way g a cs b → First (ways g (length cs) a b)
@@ -167,7 +170,8 @@ back-leads : (g : Graph) (k n : ℕ) (a : Name) (w : List Name) → way_back g k
 back-leads g k zero a w e = absurd (none≢some e)
 back-leads g k (suc n) a w e = by_first (back-leads g (suc k) n a w) (first_of (ways g k a a)) refl
   where
-    by_first : (way_back g (suc k) n a ≡ Some w → Leads g a a) → (o : Option (List Name)) → first_of (ways g k a a) ≡ o → Leads g a a
+    by_first : (way_back g (suc k) n a ≡ Some w → Leads g a a) → (o : Option (List Name)) → first_of (ways g k a a) ≡
+            o → Leads g a a
     by_first later (Some v) d = listed-leads g k a a (v, d)
     by_first later None d =
         later (sym (ap (λ o. option_or o (way_back g (suc k) n a)) d) ∙ e)
@@ -176,7 +180,8 @@ ring-leads : (g : Graph) (ns : List Name) (w : List Name) → first_ring g ns �
 ring-leads g [] w e = absurd (none≢some e)
 ring-leads g (a ∷ more) w e = by_back (ring-leads g more w) (way_back g 0 (length g) a) refl
   where
-    by_back : (first_ring g more ≡ Some w → (b : Name) × Leads g b b) → (o : Option (List Name)) → way_back g 0 (length g) a ≡ o → (b : Name) × Leads g b b
+    by_back : (first_ring g more ≡ Some w → (b : Name) × Leads g b b) → (o : Option (List Name)) → way_back g 0
+            (length g) a ≡ o → (b : Name) × Leads g b b
     by_back later (Some v) d = (a, back-leads g 0 (length g) a v d)
     by_back later None d = later (sym (ap (λ o. option_or o (first_ring g more)) d) ∙ e)
 
@@ -203,10 +208,12 @@ ring-found g [] a w i e = absurd (cc i)
 ring-found g (b ∷ more) a w i e =
     by_back (λ j. ring-found g more a w j e) (way_back g 0 (length g) b) refl (in-cases a b more i)
   where
-    by_back : (is_among more a ≡ true → (v : List Name) × (first_ring g more ≡ Some v)) → (o : Option (List Name)) → way_back g 0 (length g) b ≡ o → (a ≡ b) ⊎ (is_among more a ≡ true) →
+    by_back : (is_among more a ≡ true → (v : List Name) × (first_ring g more ≡ Some v)) → (o : Option (List Name)) →
+            way_back g 0 (length g) b ≡ o → (a ≡ b) ⊎ (is_among more a ≡ true) →
         (v : List Name) × (first_ring g (b ∷ more) ≡ Some v)
     by_back further (Some v) d c = (v, ap (λ o. option_or o (first_ring g more)) d)
-    by_back further None d (inl same) = absurd (none≢some (sym d ∙ subst (λ c. way_back g 0 (length g) c ≡ Some w) same e))
+    by_back further None d (inl same) = absurd (none≢some (sym d ∙ subst (λ c. way_back g 0 (length g) c ≡
+            Some w) same e))
     by_back further None d (inr later) =
         let rest = further later in
         (rest.0, ap (λ o. option_or o (first_ring g more)) d ∙ rest.1)
@@ -237,7 +244,8 @@ among-in_order a [] i = i
 among-in_order a (n ∷ ns) i =
     among-inserted a n (in_byte_order ns) (by_case (among-in_order a ns) (in-cases a n ns i))
   where
-    by_case : (is_among ns a ≡ true → is_among (in_byte_order ns) a ≡ true) → (a ≡ n) ⊎ (is_among ns a ≡ true) → is_among (n ∷ in_byte_order ns) a ≡ true
+    by_case : (is_among ns a ≡ true → is_among (in_byte_order ns) a ≡ true) → (a ≡ n) ⊎ (is_among ns a ≡ true) →
+            is_among (n ∷ in_byte_order ns) a ≡ true
     by_case further (inl e) = in-head a n (in_byte_order ns) e
     by_case further (inr j) = in-tail a n (in_byte_order ns) (further j)
 
@@ -249,7 +257,8 @@ leads-found g a l = by_way (shortest g a a _ (way_of g l).1)
         let named = way_is_named g a a cs way in
         let fits = once-fits (a ∷ cs) (names g) o named in
         let many : length (names g) ≡ length g = length-map g header_name in
-        let back = back-found g 0 (length g) (length cs) a (omega arith) (omega (arith, fits, many)) (listed g a a cs way) in
+        let back = back-found g 0 (length g) (length cs) a (omega arith) (omega (arith, fits, many))
+                (listed g a a cs way) in
         ring-found g (in_byte_order (names g)) a back.0 (among-in_order a (names g) named.0) back.1
 
 pub rings_are_told : RingsAreTold

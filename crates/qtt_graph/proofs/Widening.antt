@@ -1,18 +1,17 @@
 -- Nearness, one import after another, and the first way back.
-use Rattle.std.proofs.Common.{◌≡◌, ℕ, zero, suc, ◌+◌, ◌-◌, ◌≤◌, ◌<◌, Bool, true, false, cond, List, [], ◌∷◌, ◌++◌, map, length, replicate, take, slice_index_or, slice_set, Option, Some, None, refl, sym, ap, ◌∙◌, subst, ◌⊎◌, inl, inr, arith}
+use Rattle.std.proofs.Common.{◌≡◌, ℕ, zero, suc, ◌+◌, ◌-◌, ◌≤◌, ◌<◌, Bool, true, false, cond, List, [], ◌∷◌, ◌++◌, length, replicate, take, slice_index_or, slice_set, Option, Some, None, refl, sym, ap, ◌∙◌, subst, ◌⊎◌, inl, inr, arith}
 use Rattle.std.specs.Prelude.{is_some, is_none, find}
 use Rattle.std.specs.Option.{option_or}
 use Rattle.std.proofs.lemmas.Bool.{cases_eq, cases_lt}
-use Rattle.std.proofs.lemmas.List.{length-map, length-set, get_or-set_same, get_or-set_other}
+use Rattle.std.proofs.lemmas.List.{length-set, get_or-set_same, get_or-set_other}
 use Rattle.qtt_graph.specs.Graph.{Name, Graph, below, names, is_among}
-use Rattle.qtt_graph.specs.Ring.{Leads, first_of, ways, way_back, first_ring, ring}
+use Rattle.qtt_graph.specs.Ring.{first_of, ways, way_back, first_ring}
 use Rattle.qtt_graph.specs.Laws.{Closed}
 use Rattle.qtt_graph.specs.Modules.{name_at, ArePlaces}
 use Rattle.qtt_graph.specs.Near.{HasWay, Near, Stepped, IsAt, IsFirstWay, goes_on_from}
 use Rattle.qtt_graph.proofs.Among.{none≢some, some-injective, Once}
-use Rattle.qtt_graph.proofs.Rings.{First}
 use Rattle.qtt_graph.proofs.Levelled.{whatever-else}
-use Rattle.qtt_graph.proofs.Nearer.{way-first, first-way, way-on, way-next, Known, NoneShorter, none-goes-on, GoesOn, one-goes-on}
+use Rattle.qtt_graph.proofs.Nearer.{first-way, way-on, way-next, Known, NoneShorter, none-goes-on, GoesOn, one-goes-on}
 
 -- ---- modules from which ways of n + 1 imports lead are noted in turn
 pub record Widened (g : Graph) (b : Name) (n p : ℕ) (found : Bool) (near : List (Option ℕ)) : Type 0 where
@@ -45,7 +44,7 @@ none-known g b = record {
 pub widening : (g : Graph) (b : Name) (n : ℕ) (near : List (Option ℕ)) → Near g b n near → Widened g b n 0 false near
 widening g b n near h = record {
   all = h.all;
-  known = record { there = λ i k o l e. (h.there i k o l e).0; least = h.least; };
+  known = record { there = λ i k o l e. (h.there i k o l e).0; least = h.least };
   low = λ i k o l e. let s = (h.there i k o l e).1 in omega (arith, s);
   done = λ i o z l w. absurd (omega (arith, z));
   quiet = λ q i k o l e. (h.there i k o l e).1;
@@ -73,7 +72,8 @@ not-shorter g b n p near known l e j less w = none≢some (sym e ∙ (known.leas
 
 -- what is known of a module stays
 pub widen-kept : (g : Graph) (b : Name) (n p j : ℕ) (o : Option ℕ) (found : Bool) (near : List (Option ℕ)) →
-    p < length g → slice_index_or near p o ≡ Some j → ((q : Option ℕ) → slice_index_or near p q ≡ slice_index_or near p o) →
+    p < length g → slice_index_or near p o ≡ Some j → ((q : Option ℕ) → slice_index_or near p q ≡
+            slice_index_or near p o) →
     Widened g b n p found near → Widened g b n (p + 1) found near
 widen-kept g b n p j o found near l e same h = record {
   all = h.all;
@@ -110,8 +110,8 @@ widen-passed g t n p row found near o l k e places f h = record {
     by_order i q z m w (inr more) =
         let is : i ≡ p = omega (arith, z, more) in
         absurd (none-goes-on g t n near (name_at g p) row o l h.known
-            (not-shorter g (name_at g t) n p near h.known k e) places f
-            (subst (λ r. HasWay g n (name_at g r) (name_at g t)) is w))
+        (not-shorter g (name_at g t) n p near h.known k e) places f
+        (subst (λ r. HasWay g n (name_at g r) (name_at g t)) is w))
 
 -- a module from which such a way leads is noted
 pub widen-noted : (g : Graph) (t n p d : ℕ) (row : List ℕ) (found : Bool) (near : List (Option ℕ)) → Once (names g) →
@@ -120,7 +120,7 @@ pub widen-noted : (g : Graph) (t n p d : ℕ) (row : List ℕ) (found : Bool) (n
     Widened g (name_at g t) n (p + 1) true (slice_set near p (Some n))
 widen-noted g t n p d row found near o l k e places f h = record {
   all = length-set near p (Some n) ∙ h.all;
-  known = record { there = noted; least = still; };
+  known = record { there = noted; least = still };
   low = lower;
   done = λ i q z m w. by_order i q z m w (cases_eq i p);
   quiet = λ z. absurd (cc z);
@@ -145,7 +145,7 @@ widen-noted g t n p d row found near o l k e places f h = record {
         by_case : (i ≡ p) ⊎ (i ≡ p → ⊥) → HasWay g j (name_at g i) b
         by_case (inl same) =
             let value = some-injective (sym (get_or-set_same near p (Some n) q inside) ∙
-                    subst (λ r. slice_index_or (slice_set near p (Some n)) r q ≡ Some j) same is) in
+            subst (λ r. slice_index_or (slice_set near p (Some n)) r q ≡ Some j) same is) in
             subst (λ r. HasWay g j (name_at g r) b) (sym same) (subst (λ r. HasWay g r (name_at g p) b) value way)
         by_case (inr other) = h.known.there i j q m (sym (get_or-set_other near p i (Some n) q other) ∙ is)
 
@@ -159,27 +159,32 @@ widen-noted g t n p d row found near o l k e places f h = record {
             let r = h.known.least i j q m less w in
             (r.0, r.1, get_or-set_other near p i (Some n) q other ∙ r.2)
 
-    lower : (i j : ℕ) (q : Option ℕ) → i < length g → slice_index_or (slice_set near p (Some n)) i q ≡ Some j → j < n + 1
+    lower : (i j : ℕ) (q : Option ℕ) → i < length g → slice_index_or (slice_set near p (Some n)) i q ≡ Some j →
+            j < n + 1
     lower i j q m is = by_case (cases_eq i p)
       where
         by_case : (i ≡ p) ⊎ (i ≡ p → ⊥) → j < n + 1
         by_case (inl same) =
             let value = some-injective (sym (get_or-set_same near p (Some n) q inside) ∙
-                    subst (λ r. slice_index_or (slice_set near p (Some n)) r q ≡ Some j) same is) in
+            subst (λ r. slice_index_or (slice_set near p (Some n)) r q ≡ Some j) same is) in
             omega (arith, value)
         by_case (inr other) = h.low i j q m (sym (get_or-set_other near p i (Some n) q other) ∙ is)
 
     by_order : (i : ℕ) (q : Option ℕ) → i < p + 1 → i < length g → HasWay g n (name_at g i) b → (i ≡ p) ⊎ (i ≡ p → ⊥) →
         (m : ℕ) × (m ≤ n) × (slice_index_or (slice_set near p (Some n)) i q ≡ Some m)
-    by_order i q z m w (inl same) =
-        (n, omega arith, subst (λ r. slice_index_or (slice_set near p (Some n)) r q ≡ Some n) (sym same)
-            (get_or-set_same near p (Some n) q inside))
+    by_order i q z m w (inl same) = (
+      n,
+      omega arith,
+      subst (λ r. slice_index_or (slice_set near p (Some n)) r q ≡ Some n) (sym same)
+          (get_or-set_same near p (Some n) q inside),
+    )
     by_order i q z m w (inr other) =
         let r = h.done i q (omega (arith, z, other)) m w in
         (r.0, r.1, get_or-set_other near p i (Some n) q other ∙ r.2)
 
 -- ---- where no module is noted, none comes later
-pub all-near : (g : Graph) (b : Name) (n : ℕ) (near : List (Option ℕ)) → Closed g → n < length g → Near g b (n + 1) near →
+pub all-near : (g : Graph) (b : Name) (n : ℕ) (near : List (Option ℕ)) → Closed g → n < length g → Near g b
+        (n + 1) near →
     ((i k : ℕ) (o : Option ℕ) → i < length g → slice_index_or near i o ≡ Some k → k < n) →
     ((a : Name) → is_among (names g) a ≡ true → (p : ℕ) × (p < length g) × (name_at g p ≡ a)) → Near g b (length g) near
 all-near g b n near closed m h quiet placed = record {
@@ -204,7 +209,8 @@ all-near g b n near closed m h quiet placed = record {
 -- ---- the first way back
 no-way-back : (g : Graph) (a : Name) (k n : ℕ) → ((j : ℕ) → j < k + n → HasWay g j a a → ⊥) → way_back g k n a ≡ None
 no-way-back g a k zero none = refl
-no-way-back g a k (suc n) none = by_first (first_of (ways g k a a)) refl (no-way-back g a (suc k) n (λ j l. none j (omega (arith, l))))
+no-way-back g a k (suc n) none = by_first (first_of (ways g k a a)) refl (no-way-back g a (suc k) n (λ j l. none j
+        (omega (arith, l))))
   where
     by_first : (o : Option (List Name)) → first_of (ways g k a a) ≡ o → way_back g (suc k) n a ≡ None →
         way_back g k (suc n) a ≡ None
@@ -244,9 +250,9 @@ back-some g t k near o w l h e f =
     let there = h.there t k o l e in
     way-back-at g (name_at g t) k w 0 (length g) (omega arith) (omega (arith, there.1))
     (λ j s v.
-        let r = h.least t j o l (omega (arith, s, there.1)) v in
-        let same = some-injective (sym e ∙ r.2) in
-        absurd (omega (arith, r.1, same, s)))
+    let r = h.least t j o l (omega (arith, s, there.1)) v in
+    let same = some-injective (sym e ∙ r.2) in
+    absurd (omega (arith, r.1, same, s)))
     f
 
 pub first-ring-at : (g : Graph) (ns : List Name) (i : ℕ) (w : List Name) → i < length ns →
@@ -390,7 +396,8 @@ append-more [] y zs = refl
 append-more (x ∷ xs) y zs = ap (λ ys. x ∷ ys) (append-more xs y zs)
 
 pub going-stops : (g : Graph) (near : List (Option ℕ)) (t count : ℕ) (way : List Name) (p left : ℕ) → Once (names g) →
-    t < length g → Near g (name_at g t) (length g) near → Going g near t count way p left → Stepped g near t left p None → ⊥
+    t < length g → Near g (name_at g t) (length g) near → Going g near t count way p left →
+            Stepped g near t left p None → ⊥
 going-stops g near t count way p left o l h so (row, places, is) =
     let there = h.there p left None so.within so.at in
     none-goes-on g t left near (name_at g p) row o l (known-so-far g (name_at g t) left near there.1 h)

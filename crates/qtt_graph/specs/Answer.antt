@@ -1,5 +1,5 @@
 -- What is answered of the graph of a build's modules.
-use Rattle.std.specs.Prelude.{◌≡◌, ℕ, List, map, Result, Ok, Err}
+use Rattle.std.specs.Prelude.{◌≡◌, ℕ, map, Result, Ok, Err}
 use Rattle.std.specs.Global.{Vec}
 use Rattle.qtt_graph.specs.declared.errors.GraphError.{GraphError}
 use Rattle.qtt_graph.specs.declared.errors.GraphError.TheVariants.{Cycle, Memory}

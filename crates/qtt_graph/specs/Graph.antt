@@ -1,6 +1,6 @@
 -- Modules by their names, and what they import.
 use Rattle.std.specs.Prelude.{ℕ, nat_eq, Bool, true, not, ◌&&◌, if◌then◌else◌, List, [], ◌∷◌, map, find, filter, Option, Some, None, codes}
-use Rattle.std.specs.List.{list_any}
+use Rattle.std.specs.List.{list_any, list_all}
 use Rattle.std.specs.Ordering.{nat_cmp, is_le}
 use Rattle.std.specs.Cmp.Lexicographic.{pointwise, slice_cmp}
 use Rattle.qtt_syntax.specs.declared.module.Import.{Import}
@@ -57,6 +57,17 @@ names = map header_name
 abbrev pub all_differ : List Name → Bool
 all_differ [] = true
 all_differ (n ∷ ns) = not (is_among ns n) && all_differ ns
+
+-- an import of Prim, or of one of these modules
+abbrev pub is_there : List Name → Import → Bool
+is_there ns i = if counts i then is_among ns i.name else true
+
+abbrev pub all_there : List Name → List Import → Bool
+all_there ns = list_all (is_there ns)
+
+-- the names differ, and each import is one of the modules
+abbrev pub is_whole : Graph → Bool
+is_whole g = all_differ (names g) && list_all (λ (h : Header). all_there (names g) h.imports) g
 
 -- ---- byte order
 abbrev pub in_front : Name → Name → Bool

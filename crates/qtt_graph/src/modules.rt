@@ -1,7 +1,7 @@
 //! The modules of a build by their places in the list of texts.
 
 ghost use Rattle.std.specs.Prelude.{◌≡◌, ◌<◌, [], length, map, replicate, IfOk, IsTrue};
-ghost use Rattle.qtt_graph.specs.Graph.{below, names, all_differ};
+ghost use Rattle.qtt_graph.specs.Graph.{below, names, all_differ, is_whole};
 ghost use Rattle.qtt_graph.specs.Laws.{Closed};
 ghost use Rattle.qtt_graph.specs.Ranks.{ranked};
 ghost use Rattle.qtt_graph.specs.Ranking.{Known, Found};
@@ -29,8 +29,7 @@ pub struct Modules<'t> {
 
 impl<'t> Modules<'t> {
     pub fn new(alloc: Global, texts: &'t [ModuleText]) -> Result<Modules<'t>, MemoryError>
-        requires differ { IsTrue (all_differ (names (graph_of texts.now))) }
-        requires closed { Closed (graph_of texts.now) }
+        requires whole { IsTrue (is_whole (graph_of texts.now)) }
         ensures { IfOk result (λ m. m.texts.now ≡ texts.now) }
     {
         let places = Places::new(alloc, texts)?;
@@ -45,6 +44,7 @@ impl<'t> Modules<'t> {
             order,
         })
     }
+
     pub fn len(&self) -> usize
         ensures { result ≡ length self.now.texts.now }
     {
@@ -76,12 +76,7 @@ impl<'t> Modules<'t> {
 
     /// The rank of a module, or nothing where so many imports lead on from it.
     #[cycle(rank)]
-    fn rank(
-        &self,
-        known: &mut Vec<Option<usize>>,
-        place: usize,
-        steps: usize,
-    ) -> Option<usize>
+    fn rank(&self, known: &mut Vec<Option<usize>>, place: usize, steps: usize) -> Option<usize>
         requires there { place < length self.now.texts.now }
         requires known { Known (graph_of self.now.texts.now) known.old.items }
         ensures known { Known (graph_of self.now.texts.now) known.new.items }

@@ -24,7 +24,7 @@ fn goes_on(near: &Vec<Option<usize>>, target: usize, count: usize, place: usize)
 }
 
 impl<'t> Modules<'t> {
-    /// The module to which a way of `count + 1` imports to `target` goes on from the one at `place`.
+    /// The module to which a way of `count + 1` imports to `target` goes on from `place`.
     fn step(
         &self,
         near: &Vec<Option<usize>>,

@@ -1,4 +1,4 @@
-use Rattle.std.proofs.Common.{◌≡◌, ◌∙◌, sym, ap, subst, Some, None, map}
+use Rattle.std.proofs.Common.{◌∙◌, sym, ap, subst}
 use Rattle.std.specs.Prelude.{option_map}
 use Rattle.qtt_graph.specs.Modules.{graph_of}
 use Rattle.qtt_graph.specs.Ranks.{ranked}

@@ -1,6 +1,5 @@
-use Rattle.std.proofs.Common.{rules, arith, ◌≡◌, ◌<◌, ◌+◌, ◌-◌, ◌∙◌, sym, ap, subst, suc, ℕ, length, take, map, Some, None, slice_index_or}
+use Rattle.std.proofs.Common.{arith, ◌≡◌, ◌+◌, ◌-◌, ◌∙◌, sym, ap, subst, suc, length, map, Some, None}
 use Rattle.std.proofs.lemmas.List.{take_all}
-use Rattle.qtt_graph.specs.Graph.{Graph, names}
 use Rattle.qtt_graph.specs.Modules.{graph_of, name_at}
 use Rattle.qtt_graph.specs.Ranks.{one_above, rank, rank_within}
 use Rattle.qtt_graph.specs.Ranking.{Found}
@@ -23,7 +22,7 @@ returns-in_err-next-clause-found t c =
     let some = c.if-steps-eq0.false in
     let more : suc (c.args.steps - 1) ≡ c.args.steps = omega (arith, some) in
     let none = unranked-import g row (name_at g c.args.place) c.loop-below.below-index (c.args.steps - 1)
-            c.imports-below-items.ensures c.loop-below-test.true c.in_err-next.ensures.found in
+    c.imports-below-items.ensures c.loop-below-test.true c.in_err-next.ensures.found in
     subst (λ o. Found g c.args.steps c.args.place o) (sym c.from_residual.ensures)
     (subst (λ n. rank_within g n (name_at g c.args.place) ≡ None) more none)
 
@@ -31,7 +30,8 @@ pub overflow_add-next : goal.overflow_add-next
 overflow_add-next t c =
     let g = graph_of c.args.self.now.texts.now in
     let row = c.imports-below-items.result.now in
-    let there = within-at (length g) row c.loop-below.below-index c.imports-below-items.ensures.within c.loop-below-test.true in
+    let there = within-at
+            (length g) row c.loop-below.below-index c.imports-below-items.ensures.within c.loop-below-test.true in
     let below = rank-below g c.args.self.now.closed _ c.in_ok-next.next there c.in_ok-next.ensures.found in
     let long = graph-length c.args.self.now.texts.now in
     let all = c.requires.known.all in
@@ -42,10 +42,12 @@ overflow_add-next t c =
 pub loop-below-preserved : goal.loop-below-preserved
 loop-below-preserved t c =
     let g = graph_of c.args.self.now.texts.now in
-    let row = c.imports-below-items.result.now in
-    (c.in_ok-next.ensures.known,
-        rank-step (λ i. rank g (name_at g i)) row c.loop-below.below-index c.loop-below.rank c.in_ok-next.next
-        c.loop-below-test.true c.loop-below.invariant.1 c.in_ok-next.ensures.found ∙ ap Some (max-is c.loop-below.rank (c.in_ok-next.next + 1) ∙ sym c.max-rank.ensures))
+    let row = c.imports-below-items.result.now in (
+      c.in_ok-next.ensures.known,
+      rank-step (λ i. rank g (name_at g i)) row c.loop-below.below-index c.loop-below.rank c.in_ok-next.next
+          c.loop-below-test.true c.loop-below.invariant.1 c.in_ok-next.ensures.found ∙ ap Some
+                  (max-is c.loop-below.rank (c.in_ok-next.next + 1) ∙ sym c.max-rank.ensures),
+    )
 
 pub returns-clause-found : goal.returns-clause-found
 returns-clause-found t c =
@@ -57,7 +59,7 @@ returns-clause-found t c =
     rank-done g c.args.self.now.closed row c.args.place c.loop-below.rank (omega (arith, there, long))
     c.imports-below-items.ensures
     (ap (λ ps. one_above (map (λ i. rank g (name_at g i)) ps)) (sym (take_all c.loop-below.below-index row all)) ∙
-        c.loop-below.invariant.1)
+    c.loop-below.invariant.1)
 
 pub returns-clause-known : goal.returns-clause-known
 returns-clause-known t c =

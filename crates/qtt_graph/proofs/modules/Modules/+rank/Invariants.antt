@@ -1,4 +1,4 @@
-use Rattle.std.proofs.Common.{◌≡◌, ℕ, map, take, Some}
+use Rattle.std.proofs.Common.{◌≡◌, map, take, Some}
 use Rattle.qtt_graph.specs.Modules.{graph_of, name_at}
 use Rattle.qtt_graph.specs.Ranks.{one_above, rank}
 use Rattle.qtt_graph.specs.Ranking.{Known}
@@ -10,4 +10,4 @@ decreases-rank l = l.steps
 abbrev pub invariant-loop-below : goal.invariant-loop-below
 invariant-loop-below l = Known (graph_of l.self.texts.now) l.known.items ×
     (one_above (map (λ i. rank (graph_of l.self.texts.now) (name_at (graph_of l.self.texts.now) i))
-        (take l.below-index l.below-items)) ≡ Some l.rank)
+    (take l.below-index l.below-items)) ≡ Some l.rank)

@@ -1,20 +1,21 @@
-use Rattle.std.proofs.Common.{rules, arith, ◌≡◌, ◌<◌, ◌+◌, ◌∙◌, sym, ap, subst, ℕ, List, [], ◌∷◌, ◌++◌, map, length, take, slice_index_or, slice_set}
+use Rattle.std.proofs.Common.{rules, arith, ◌≡◌, ◌<◌, ◌+◌, ◌∙◌, sym, ap, subst, map, length, take, slice_index_or, slice_set}
 use Rattle.std.proofs.lemmas.Fn.{filter_same}
 use Rattle.std.proofs.lemmas.List.{take_all, length-map}
-use Rattle.qtt_graph.specs.Modules.{graph_of, name_at, order_of}
+use Rattle.qtt_graph.specs.Modules.{graph_of, order_of}
 use Rattle.qtt_graph.specs.Levels.{levels}
 use Rattle.qtt_graph.proofs.NamePlaces.{graph-length}
 use Rattle.qtt_graph.proofs.Levelled.{levels-empty, levels-length, order-at, rank-at, put-step, whatever-else, is_filled, filled, filled-kept, filled-ranked}
 use Rattle.qtt_graph.proofs.modules.Modules.by_rank.Goals as goal
 
 pub loop-place-init : goal.loop-place-init
-loop-place-init c = c.in_ok-levels.ensures ∙ sym (levels-empty c.args.ranks.now.items 0 (length c.args.self.now.texts.now))
+loop-place-init c = c.in_ok-levels.ensures ∙ sym (levels-empty c.args.ranks.now.items 0
+        (length c.args.self.now.texts.now))
 
 pub index-requires : goal.index-requires
 index-requires c =
     let self = c.args.self.now in
     let there = order-at (graph_of self.texts.now) c.deref-place-items.result.now c.loop-place.place-index
-            (c.deref-place-items.ensures.value ∙ self.ordered) c.loop-place-test.true in
+    (c.deref-place-items.ensures.value ∙ self.ordered) c.loop-place-test.true in
     let all = c.requires.ranks.all in
     omega (arith, there, all)
 
@@ -23,15 +24,17 @@ index_mut-requires c =
     let self = c.args.self.now in
     let g = graph_of self.texts.now in
     let there = order-at g c.deref-place-items.result.now c.loop-place.place-index
-            (c.deref-place-items.ensures.value ∙ self.ordered) c.loop-place-test.true in
+    (c.deref-place-items.ensures.value ∙ self.ordered) c.loop-place-test.true in
     let all = c.requires.ranks.all in
-    let is = c.index.ensures ∙ whatever-else c.args.ranks.now.items _ c.index.result.now 0 (omega (arith, there, all)) in
-    let low = subst (λ r. r < length g) (sym is) (rank-at g self.closed c.args.ranks.now.items _ c.requires.ranks there) in
+    let is = c.index.ensures ∙ whatever-else c.args.ranks.now.items _ c.index.result.now 0 (omega
+            (arith, there, all)) in
+    let low = subst (λ r. r < length g) (sym is)
+            (rank-at g self.closed c.args.ranks.now.items _ c.requires.ranks there) in
     let long = graph-length self.texts.now in
     let ok = c.loop-place.levels.ok in
     let many : length c.loop-place.levels.items ≡ length self.texts.now =
-            sym (length-map c.loop-place.levels.items (λ l. l.items)) ∙ ap length c.loop-place.invariant ∙
-            levels-length c.args.ranks.now.items _ 0 (length self.texts.now) in
+    sym (length-map c.loop-place.levels.items (λ l. l.items)) ∙ ap length c.loop-place.invariant ∙
+    levels-length c.args.ranks.now.items _ 0 (length self.texts.now) in
     omega (arith, low, long, ok.0, many)
 
 pub loop-place-preserved : goal.loop-place-preserved
@@ -40,18 +43,19 @@ loop-place-preserved c =
     let g = graph_of self.texts.now in
     let row = c.deref-place-items.result.now in
     let there = order-at g row c.loop-place.place-index
-            (c.deref-place-items.ensures.value ∙ self.ordered) c.loop-place-test.true in
+    (c.deref-place-items.ensures.value ∙ self.ordered) c.loop-place-test.true in
     let all = c.requires.ranks.all in
-    let is = c.index.ensures ∙ whatever-else c.args.ranks.now.items _ c.index.result.now 0 (omega (arith, there, all)) in
+    let is = c.index.ensures ∙ whatever-else c.args.ranks.now.items _ c.index.result.now 0 (omega
+            (arith, there, all)) in
     let low = rank-at g self.closed c.args.ranks.now.items _ c.requires.ranks there in
     let long = graph-length self.texts.now in
     subst (λ r. map (λ l. l.items) (slice_set c.loop-place.levels.items r c.push.new.self) ≡
-            levels c.args.ranks.now.items (take (c.loop-place.place-index + 1) row) 0 (length self.texts.now)) (sym is)
+    levels c.args.ranks.now.items (take (c.loop-place.place-index + 1) row) 0 (length self.texts.now)) (sym is)
     (put-step (λ l. l.items) c.loop-place.levels.items c.push.new.self c.args.ranks.now.items row
-        c.loop-place.place-index (length self.texts.now) c.index_mut.result.now c.in_ok-number.field-0
-        c.loop-place-test.true (omega (arith, low, long)) c.loop-place.invariant
-        (c.index_mut.ensures.value ∙ ap (λ r. slice_index_or c.loop-place.levels.items r c.index_mut.result.now) is)
-        c.in_ok-number.ensures c.in_ok-push.ensures.items)
+    c.loop-place.place-index (length self.texts.now) c.index_mut.result.now c.in_ok-number.field-0
+    c.loop-place-test.true (omega (arith, low, long)) c.loop-place.invariant
+    (c.index_mut.ensures.value ∙ ap (λ r. slice_index_or c.loop-place.levels.items r c.index_mut.result.now) is)
+    c.in_ok-number.ensures c.in_ok-push.ensures.items)
 
 pub returns : goal.returns
 returns c =
@@ -63,7 +67,7 @@ returns c =
     let order = c.deref-place-items.ensures.value ∙ self.ordered in
     ap (map (λ l. l.items)) kept ∙ filled-kept (λ l. l.items) c.loop-place.levels.items ∙
     ap filled (c.loop-place.invariant ∙
-        ap (λ ps. levels c.args.ranks.now.items ps 0 (length self.texts.now))
-        (take_all c.loop-place.place-index c.deref-place-items.result.now all ∙ order) ∙
-        ap (levels c.args.ranks.now.items (order_of g) 0) (sym long)) ∙
+    ap (λ ps. levels c.args.ranks.now.items ps 0 (length self.texts.now))
+    (take_all c.loop-place.place-index c.deref-place-items.result.now all ∙ order) ∙
+    ap (levels c.args.ranks.now.items (order_of g) 0) (sym long)) ∙
     filled-ranked g c.args.ranks.now.items c.requires.ranks

@@ -1,4 +1,4 @@
-use Rattle.std.proofs.Common.{arith, ◌≡◌, ◌∙◌, sym, ap, subst}
+use Rattle.std.proofs.Common.{arith, ◌∙◌, sym, ap, subst}
 use Rattle.qtt_graph.specs.Graph.{names, below}
 use Rattle.qtt_graph.specs.Modules.{graph_of, name_at, ArePlaces}
 use Rattle.qtt_graph.proofs.NamePlaces.{once, graph-length}
@@ -14,4 +14,4 @@ returns c =
     subst (λ row. ArePlaces g row (below g (name_at g c.args.place)))
     (sym (c.deref.ensures.value ∙ ap (λ r. r.items) c.index.ensures))
     (row-has_places (λ r. r.items) self.below.items g c.args.place _ self.closed (once (names g) self.differ)
-        self.imports (omega (arith, there, long)))
+    self.imports (omega (arith, there, long)))

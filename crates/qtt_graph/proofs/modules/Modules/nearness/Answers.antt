@@ -1,8 +1,7 @@
-use Rattle.std.proofs.Common.{rules, arith, ◌≡◌, ◌<◌, ◌+◌, ◌∙◌, sym, ap, subst, length, not, replicate, None}
-use Rattle.qtt_graph.specs.Graph.{names}
+use Rattle.std.proofs.Common.{rules, arith, ◌≡◌, ◌<◌, ◌∙◌, sym, ap, subst, length}
 use Rattle.qtt_graph.specs.Modules.{graph_of, name_at}
 use Rattle.qtt_graph.specs.Near.{Near}
-use Rattle.qtt_graph.proofs.NamePlaces.{once, graph-length}
+use Rattle.qtt_graph.proofs.NamePlaces.{graph-length}
 use Rattle.qtt_graph.proofs.Following.{placed}
 use Rattle.qtt_graph.proofs.Widening.{nothing, none-known, all-near}
 use Rattle.qtt_graph.proofs.modules.Modules.nearness.Goals as goal
@@ -23,10 +22,10 @@ returns-then-not-widen c =
     let there = c.loop-count-test.true in
     let end = c.len-count-end.ensures in
     let near = all-near g (name_at g c.args.target) c.loop-count.count c.widen.new.near.items self.closed
-            (omega (arith, there, end, long)) c.widen.ensures.near
-            (λ i k o l e. c.widen.ensures.quiet c.if-not-widen.true i k o
-                (subst (λ n. i < n) (sym c.widen.ensures.near.all) l) e)
-            (λ a i. placed g a i) in
+    (omega (arith, there, end, long)) c.widen.ensures.near
+    (λ i k o l e. c.widen.ensures.quiet c.if-not-widen.true i k o
+    (subst (λ n. i < n) (sym c.widen.ensures.near.all) l) e)
+    (λ a i. placed g a i) in
     subst (λ n. Near g (name_at g c.args.target) n c.widen.new.near.items) long near
 
 pub returns : goal.returns

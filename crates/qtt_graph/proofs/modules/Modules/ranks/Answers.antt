@@ -11,6 +11,8 @@ returns-in-None c =
     let g = graph_of texts in
     let place = c.loop-place.place in
     let there = c.loop-place-test.true in
-    let long = graph-length texts in
-    (name_at g place, at-place g place (omega (arith, there, long)),
-        subst (λ n. rank_within g n (name_at g place) ≡ None) (sym long) c.in-None.ensures.found)
+    let long = graph-length texts in (
+      name_at g place,
+      at-place g place (omega (arith, there, long)),
+      subst (λ n. rank_within g n (name_at g place) ≡ None) (sym long) c.in-None.ensures.found,
+    )

@@ -7,4 +7,4 @@ use Rattle.qtt_graph.proofs.modules.Modules.ranks.Given as goal
 abbrev pub invariant-loop-place : goal.invariant-loop-place
 invariant-loop-place l = Known (graph_of l.self.texts.now) l.known.items × (length l.ranks.items ≡ l.place) ×
     ((i d : ℕ) → i < l.place → rank (graph_of l.self.texts.now) (name_at (graph_of l.self.texts.now) i) ≡
-        Some (slice_index_or l.ranks.items i d))
+    Some (slice_index_or l.ranks.items i d))

@@ -1,4 +1,4 @@
-use Rattle.std.proofs.Common.{arith, ◌≡◌, ◌<◌, ◌-◌, ◌∙◌, sym, ap, subst, length, [], ◌∷◌, ◌++◌, Some, None}
+use Rattle.std.proofs.Common.{arith, ◌-◌, ◌∙◌, sym, ap, subst, [], ◌∷◌, ◌++◌}
 use Rattle.qtt_graph.specs.Graph.{names}
 use Rattle.qtt_graph.specs.Modules.{graph_of, name_at}
 use Rattle.qtt_graph.specs.Near.{Near, Stepped, IsFirstWay}
@@ -29,8 +29,9 @@ returns-then-left-eq0 c =
     let step = subst (Stepped g near c.args.target c.loop-next.left c.loop-next.place) c.in-Some.is c.step.ensures in
     let way = c.in_ok-push.ensures.items ∙ ap (λ n. c.loop-next.way.items ++ n ∷ []) c.in_ok-name.ensures in
     subst (IsFirstWay g c.args.count c.args.target c.args.target) (sym way)
-    (going-ends g near c.args.target c.args.count c.loop-next.way.items c.loop-next.place c.loop-next.left c.in-Some.next
-        (once (names g) self.differ) (omega (arith, there, long)) known c.loop-next.invariant step c.if-left-eq0.true)
+    (going-ends g near c.args.target c.args.count c.loop-next.way.items c.loop-next.place c.loop-next.left
+            c.in-Some.next
+    (once (names g) self.differ) (omega (arith, there, long)) known c.loop-next.invariant step c.if-left-eq0.true)
 
 pub loop-next-preserved : goal.loop-next-preserved
 loop-next-preserved c =
@@ -44,7 +45,7 @@ loop-next-preserved c =
     let way = c.in_ok-push.ensures.items ∙ ap (λ n. c.loop-next.way.items ++ n ∷ []) c.in_ok-name.ensures in
     subst (λ ws. Going g near c.args.target c.args.count ws c.in-Some.next (c.loop-next.left - 1)) (sym way)
     (going-on g near c.args.target c.args.count c.loop-next.way.items c.loop-next.place c.loop-next.left c.in-Some.next
-        (once (names g) self.differ) (omega (arith, there, long)) known c.loop-next.invariant step c.if-left-eq0.false)
+    (once (names g) self.differ) (omega (arith, there, long)) known c.loop-next.invariant step c.if-left-eq0.false)
 
 pub returns : goal.returns
 returns c =
@@ -56,4 +57,4 @@ returns c =
     let known = subst (λ n. Near g (name_at g c.args.target) n near) (sym long) c.requires.near in
     let step = subst (Stepped g near c.args.target c.loop-next.left c.loop-next.place) c.in_default.is c.step.ensures in
     absurd (going-stops g near c.args.target c.args.count c.loop-next.way.items c.loop-next.place c.loop-next.left
-        (once (names g) self.differ) (omega (arith, there, long)) known c.loop-next.invariant step)
+    (once (names g) self.differ) (omega (arith, there, long)) known c.loop-next.invariant step)

@@ -11,4 +11,4 @@ returns c =
     let self = c.args.self.now in
     let values : c.in_ok-collect.field-0.items ≡ tree.values self.by_name = search rules in
     values ∙ values-in-order (graph_of self.texts.now) self.by_name
-        (once (names (graph_of self.texts.now)) self.differ) c.values.ensures.ordered self.found
+    (once (names (graph_of self.texts.now)) c.requires.differ) c.values.ensures.ordered self.found
