@@ -87,7 +87,7 @@ removed-keeps a b (c ∷ cs) i n =
     by_test (λ j. removed-keeps a b cs j n) (same_name a c) refl (in-cases b c cs i)
   where
     by_test : (is_among cs b ≡ true → is_among (removed a cs) b ≡ true) → (t : Bool) → same_name a c ≡ t → (b ≡ c) ⊎
-            (is_among cs b ≡ true) →
+        (is_among cs b ≡ true) →
         is_among (removed a (c ∷ cs)) b ≡ true
     by_test kept true e (inl same) = absurd (cc (sym n ∙ subst (λ d. same_name a d ≡ true) (sym same) e))
     by_test kept true e (inr later) = subst (λ t. is_among (cond t cs (c ∷ removed a cs)) b ≡ true) (sym e) later

@@ -98,7 +98,7 @@ looked-up q (x ∷ es) p e = by_order (slice_cmp nat_cmp q (entry_name x)) refl 
     passed : (o : Ordering) → slice_cmp nat_cmp q (entry_name x) ≡ o →
         cond (is_eq o) (Some (entry_value x)) (lookup (λ k. is_eq (slice_cmp nat_cmp q k.now)) es) ≡ Some p
     passed o d = subst (λ r. cond (is_eq r) (Some (entry_value x)) (lookup (λ k. is_eq
-            (slice_cmp nat_cmp q k.now)) es) ≡ Some p) d e
+        (slice_cmp nat_cmp q k.now)) es) ≡ Some p) d e
 
     by_order : (o : Ordering) → slice_cmp nat_cmp q (entry_name x) ≡ o →
         (lookup (λ k. is_eq (slice_cmp nat_cmp q k.now)) es ≡ Some p → is_among (map entry_name es) q ≡ true) →

@@ -106,7 +106,7 @@ rank-of_imports g closed a r i e =
     let fits = rank-fits g closed a r i k in
     let there : (length g - suc r) + suc r ≡ length g = omega (arith, fits) in
     subst (λ n. rank_within g n a ≡ Some r) there (steps_more g (length g - suc r) (suc r) a r (enough g (suc
-            (length g)) a r e))
+    (length g)) a r e))
 
 -- ---- one import without a rank
 pub one_above-unranked : (f : Name → Option ℕ) (ns : List Name) (b : Name) → is_among ns b ≡ true → f b ≡ None →
@@ -152,7 +152,7 @@ max-is a b = by_order (cases_lt b a)
     by_order (inr h) =
         let right : max a b ≡ b = omega (arith, h) in
         right ∙ sym (ap (λ t. cond (is_lt (cond t Less (cond (b == a) Equal Greater))) a b) (le-ltb b a h) ∙ other
-                (b == a))
+        (b == a))
 
 -- ---- rows and names
 pub place-at : (ns : List Name) (a : Name) (p : ℕ) → place_among ns a ≡ Some p →
@@ -166,7 +166,7 @@ place-at (n ∷ ns) a p e = by_test (same_name a n) (place_among ns a) refl refl
         (slice_index_or (n ∷ ns) p [] ≡ a) × (p < length (n ∷ ns))
     by_test true o d f p e later =
         let first : 0 ≡ p = some-injective (sym (ap (λ t. cond t (Some 0) (option_map suc (place_among ns a))) d) ∙
-                e) in
+        e) in
         (subst (λ q. slice_index_or (n ∷ ns) q [] ≡ a) first (sym (same-is a n d)), omega (arith, first))
     by_test false None d f p e later =
         absurd (none≢some (sym (ap (λ t. cond t (Some 0) (option_map suc (place_among ns a))) d ∙
@@ -193,7 +193,7 @@ row-named ns (i ∷ is) there = by_test (counts i) refl (row-named ns is)
   where
     by_place : (o : Option ℕ) → place_among ns i.name ≡ o → Named ns (places_imported ns is) (kept is) →
         is_among ns i.name ≡ true → Named ns (put_found (place_among ns i.name) (places_imported ns is))
-                (i.name ∷ kept is)
+        (i.name ∷ kept is)
     by_place None d later here = absurd (none≢some (sym d ∙ (there-placed ns i.name here).1))
     by_place (Some p) d later here =
         let at = place-at ns i.name p d in
@@ -202,11 +202,11 @@ row-named ns (i ∷ is) there = by_test (counts i) refl (row-named ns is)
 
     by_test : (t : Bool) → counts i ≡ t →
         (((b : Name) → is_among (kept is) b ≡ true → is_among ns b ≡ true) → Named ns (places_imported ns is)
-                (kept is)) →
+        (kept is)) →
         Named ns (places_imported ns (i ∷ is)) (kept (i ∷ is))
     by_test true e further =
         let all = subst (λ t. (b : Name) → is_among (map import_name (cond t (i ∷ filter counts is)
-                (filter counts is))) b ≡ true →
+        (filter counts is))) b ≡ true →
         is_among ns b ≡ true) e there in
         subst (λ t. Named ns (put_found (cond t (place_among ns i.name) None) (places_imported ns is))
         (map import_name (cond t (i ∷ filter counts is) (filter counts is)))) (sym e)
@@ -214,7 +214,7 @@ row-named ns (i ∷ is) there = by_test (counts i) refl (row-named ns is)
         (all i.name (in-head i.name i.name (kept is) refl)))
     by_test false e further =
         let all = subst (λ t. (b : Name) → is_among (map import_name (cond t (i ∷ filter counts is)
-                (filter counts is))) b ≡ true →
+        (filter counts is))) b ≡ true →
         is_among ns b ≡ true) e there in
         subst (λ t. Named ns (put_found (cond t (place_among ns i.name) None) (places_imported ns is))
         (map import_name (cond t (i ∷ filter counts is) (filter counts is)))) (sym e) (further all)
@@ -257,10 +257,10 @@ row-is (k ∷ ks) closed o i h =
     let header = slice_index_or g i k in
     let there = imports-at g i k o h in
     let named = row-named (names g) header.imports (λ b j. closed (name_at g i) b (subst (λ bs. is_among bs b ≡ true)
-            (sym there) j)) in
+    (sym there) j)) in
     subst (λ bs. Named (names g) (slice_index_or (rows_of g) i []) bs) (sym there)
     (subst (λ row. Named (names g) row (kept header.imports)) (sym (row-at (λ h. places_imported
-            (names g) h.imports) g i k h)) named)
+    (names g) h.imports) g i k h)) named)
 
 -- ---- following the imports of a module, by their places
 pub within-at : (n : ℕ) (row : List ℕ) (i : ℕ) → Within n row → i < length row → slice_index_or row i 0 < n
@@ -316,7 +316,7 @@ known-set g known p r l e k = record {
 }
   where
     by_case : (i s : ℕ) (o : Option ℕ) → i < length known → slice_index_or (slice_set known p (Some r)) i o ≡
-            Some s → (i ≡ p) ⊎ (i ≡ p → ⊥) →
+        Some s → (i ≡ p) ⊎ (i ≡ p → ⊥) →
         rank g (name_at g i) ≡ Some s
     by_case i s o h d (inl same) =
         let there = subst (λ j. slice_index_or (slice_set known p (Some r)) j o ≡ Some s) same d in
@@ -335,7 +335,7 @@ abbrev row_of : Graph → Header → List ℕ
 row_of g h = places_imported (names g) h.imports
 
 pub row-in : {A : Type 0} (items : A → List ℕ) (rows : List A) (g : Graph) (i : ℕ) (d : A) → map items rows ≡
-        rows_of g →
+    rows_of g →
     i < length g → items (slice_index_or rows i d) ≡ slice_index_or (rows_of g) i []
 row-in items rows g i d is l =
     let long : length rows ≡ length g =

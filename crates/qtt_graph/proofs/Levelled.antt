@@ -99,11 +99,11 @@ filtered g ranks r each (b ∷ bs) there =
         map (place g) (cond t (b ∷ filter (has_rank g r) bs) (filter (has_rank g r) bs))
     by_test true e later =
         ap (λ t. cond t (place g b ∷ filter (has ranks r) (map (place g) bs)) (filter (has ranks r) (map
-                (place g) bs))) e ∙
+        (place g) bs))) e ∙
         ap (λ ps. place g b ∷ ps) later
     by_test false e later =
         ap (λ t. cond t (place g b ∷ filter (has ranks r) (map (place g) bs)) (filter (has ranks r) (map
-                (place g) bs))) e ∙
+        (place g) bs))) e ∙
         later
 
 -- the levels that are not empty
@@ -154,7 +154,7 @@ pub order-at : (g : Graph) (order : List ℕ) (i : ℕ) → order ≡ order_of g
     slice_index_or order i 0 < length g
 order-at g order i is l =
     let long : length order ≡ length (in_byte_order (names g)) = ap length is ∙ length-map (in_byte_order (names g))
-            (place g) in
+    (place g) in
     subst (λ ps. slice_index_or ps i 0 < length g) (sym is)
     (placed-at g (in_byte_order (names g)) i (λ b j. in_order-among b (names g) j) (omega (arith, l, long)))
 
@@ -169,13 +169,13 @@ pub put-step : {A : Type 0} (items : A → List ℕ) (before : List A) (level : 
     held ≡ slice_index_or before (rank_at ranks (slice_index_or order k 0)) held → number ≡ slice_index_or order k 0 →
     items level ≡ items held ++ number ∷ [] →
     map items (slice_set before (rank_at ranks (slice_index_or order k 0)) level) ≡ levels ranks (take
-            (k + 1) order) 0 n
+    (k + 1) order) 0 n
 put-step items before level ranks order k n held number l low so there-held is-number is =
     let p = slice_index_or order k 0 in
     let r = rank_at ranks p in
     let there : r < length before =
     subst (λ m. r < m) (sym (sym (length-map before items) ∙ ap length so ∙ levels-length ranks
-            (take k order) 0 n)) low in
+    (take k order) 0 n)) low in
     map-set items before r level ∙ ap (slice_set (map items before) r) (is ∙
     ap (λ q. items held ++ q ∷ []) is-number ∙
     ap (λ q. q ++ p ∷ []) (ap items there-held ∙ sym (mapped items before r held there))) ∙
@@ -218,7 +218,7 @@ pub order-named : (g : Graph) (order : List ℕ) (i : ℕ) → order ≡ order_o
     (i < length (in_byte_order (names g)))
 order-named g order i is l =
     let long : length order ≡ length (in_byte_order (names g)) = ap length is ∙ length-map (in_byte_order (names g))
-            (place g) in
+    (place g) in
     let there : i < length (in_byte_order (names g)) = omega (arith, l, long) in (
       ap (λ ps. name_at g (slice_index_or ps i 0)) is ∙
           named-at g (in_byte_order (names g)) i (λ b j. in_order-among b (names g) j) there,

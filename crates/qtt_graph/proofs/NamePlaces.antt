@@ -68,7 +68,7 @@ place-kept ns i n q old h named there before =
 
     by_test : (t : Bool) → same_name q (slice_index_or ns i []) ≡ t → place_among (take i ns) q ≡
         option_or (place_among (take i ns) q) (cond (same_name q (slice_index_or ns i [])) (Some (length
-                (take i ns))) None)
+        (take i ns))) None)
     by_test true e =
         or-there _ _ (subst (λ a. is_some (place_among (take i ns) a) ≡ true)
         (named ∙ sym (same-is q (slice_index_or ns i []) e)) there)
@@ -78,7 +78,7 @@ place-kept ns i n q old h named there before =
 
 -- a new name takes the next place
 pub place-new : (ns : List Name) (i : ℕ) (n q : Name) (old new : Option ℕ) → i < length ns → n ≡
-        slice_index_or ns i [] →
+    slice_index_or ns i [] →
     is_some (place_among (take i ns) n) ≡ false → old ≡ place_among (take i ns) q →
     new ≡ cond (bytes_eq n q) (Some i) old → new ≡ place_among (take (i + 1) ns) q
 place-new ns i n q old new h named absent before after =
@@ -94,14 +94,14 @@ place-new ns i n q old new h named absent before after =
 
     by_test : (t : Bool) → bytes_eq n q ≡ t → cond (bytes_eq n q) (Some i) old ≡
         option_or (place_among (take i ns) q) (cond (same_name q (slice_index_or ns i [])) (Some (length
-                (take i ns))) None)
+        (take i ns))) None)
     by_test true e =
         let same = same-is n q e in
         let front = subst (λ a. place_among (take i ns) a ≡ None) same (nothing _ absent) in
         let here = same-as q (slice_index_or ns i []) (sym same ∙ named) in
         ap (λ t. cond t (Some i) old) e ∙ ap Some (sym long) ∙
         sym (ap (λ o. option_or o (cond (same_name q (slice_index_or ns i [])) (Some (length
-                (take i ns))) None)) front ∙
+        (take i ns))) None)) front ∙
         ap (λ t. cond t (Some (length (take i ns))) None) here)
     by_test false e =
         let differ = same-flip n q e in

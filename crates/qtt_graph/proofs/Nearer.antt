@@ -205,7 +205,7 @@ among-row g t (p ∷ row) o l w i e = by_test (p == t) refl (among-row g t row o
 
     by_name : (s : Bool) → same_name (name_at g t) (name_at g p) ≡ s → (p == t) ≡ false →
         (is_among (map (name_at g) row) (name_at g t) ≡ true → find (λ p. p == t) row ≡ None → ⊥) → find
-                (λ p. p == t) row ≡ None → ⊥
+        (λ p. p == t) row ≡ None → ⊥
     by_name true s f later n =
         let same = one-place (names g) t p o (omega (arith, l, long)) (omega (arith, w.0, long)) (same-is _ _ s) in
         absurd (cc (sym f ∙ eq-eqb p t (sym same)))

@@ -35,7 +35,7 @@ one_above-none f [] e = absurd (none≢some (sym e))
 one_above-none f (n ∷ ns) e = by_part (one_above-none f ns) (joined-none (f n) (one_above (map f ns)) e)
   where
     by_part : (one_above (map f ns) ≡ None → Unranked f ns) → (f n ≡ None) ⊎ (one_above (map f ns) ≡ None) →
-            Unranked f (n ∷ ns)
+        Unranked f (n ∷ ns)
     by_part further (inl here) = (n, in-head n n ns refl, here)
     by_part further (inr later) = let r = further later in (r.0, in-tail r.0 n ns r.1, r.2)
 
@@ -62,7 +62,7 @@ one_above-all f (n ∷ ns) r e b i =
     by_case (λ k d j. one_above-all f ns k d b j) (joined-parts (f n) (one_above (map f ns)) r e) (in-cases b n ns i)
   where
     by_case : ((k : ℕ) → one_above (map f ns) ≡ Some k → is_among ns b ≡ true → Below f k b) → (m : ℕ) × (k : ℕ) ×
-            (f n ≡ Some m) × (one_above (map f ns) ≡ Some k) × (max (suc m) k ≡ r) →
+        (f n ≡ Some m) × (one_above (map f ns) ≡ Some k) × (max (suc m) k ≡ r) →
         (b ≡ n) ⊎ (is_among ns b ≡ true) → Below f r b
     by_case further (m, k, here, rest, is) (inl same) =
         let left = max-left (suc m) k in
@@ -103,7 +103,7 @@ one_above-more f g more (n ∷ ns) r e =
     by_parts (one_above-more f g more ns) (joined-parts (f n) (one_above (map f ns)) r e)
   where
     by_parts : ((k : ℕ) → one_above (map f ns) ≡ Some k → one_above (map g ns) ≡ Some k) → (m : ℕ) × (k : ℕ) × (f n ≡
-            Some m) × (one_above (map f ns) ≡ Some k) × (max (suc m) k ≡ r) →
+        Some m) × (one_above (map f ns) ≡ Some k) × (max (suc m) k ≡ r) →
         joined (g n) (one_above (map g ns)) ≡ Some r
     by_parts further (m, k, here, rest, is) =
         ap (λ o. joined o (one_above (map g ns))) (more n m here) ∙

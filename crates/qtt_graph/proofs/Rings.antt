@@ -65,7 +65,7 @@ named [] a b i = absurd (cc i)
 named (h ∷ hs) a b i = by_test (named hs a b) (same_name h.name a) refl
   where
     by_test : (ImportsThere hs a b → is_among (names hs) a ≡ true) → (t : Bool) → same_name h.name a ≡ t → is_among
-            (names (h ∷ hs)) a ≡ true
+        (names (h ∷ hs)) a ≡ true
     by_test later true e = in-head a h.name (names hs) (sym (same-is h.name a e))
     by_test later false e =
         in-tail a h.name (names hs)
@@ -109,7 +109,7 @@ first-of_all h c (n ∷ ns) i p =
     subst First (sym (flat_map-cons h n ns)) (by_case (λ j. first-of_all h c ns j p) (in-cases c n ns i))
   where
     by_case : (is_among ns c ≡ true → First (flat_map h ns)) → (c ≡ n) ⊎ (is_among ns c ≡ true) → First
-            (h n ++ flat_map h ns)
+        (h n ++ flat_map h ns)
     by_case further (inl e) = first-left (h n) (flat_map h ns) (subst (λ d. First (h d)) e p)
     by_case further (inr later) = first-right (h n) (flat_map h ns) (further later)
 
@@ -146,7 +146,7 @@ way-one a b [] p = absurd (none≢some p.1)
 way-one a b (n ∷ ns) p = by_test (way-one a b ns) (same_name b n) refl
   where
     by_test : (First (single a (filter (same_name b) ns)) → is_among ns b ≡ true) → (t : Bool) → same_name b n ≡ t →
-            is_among (n ∷ ns) b ≡ true
+        is_among (n ∷ ns) b ≡ true
     by_test later true e = in-head b n ns (same-is b n e)
     by_test later false e =
         in-tail b n ns (later
@@ -171,7 +171,7 @@ back-leads g k zero a w e = absurd (none≢some e)
 back-leads g k (suc n) a w e = by_first (back-leads g (suc k) n a w) (first_of (ways g k a a)) refl
   where
     by_first : (way_back g (suc k) n a ≡ Some w → Leads g a a) → (o : Option (List Name)) → first_of (ways g k a a) ≡
-            o → Leads g a a
+        o → Leads g a a
     by_first later (Some v) d = listed-leads g k a a (v, d)
     by_first later None d =
         later (sym (ap (λ o. option_or o (way_back g (suc k) n a)) d) ∙ e)
@@ -181,7 +181,7 @@ ring-leads g [] w e = absurd (none≢some e)
 ring-leads g (a ∷ more) w e = by_back (ring-leads g more w) (way_back g 0 (length g) a) refl
   where
     by_back : (first_ring g more ≡ Some w → (b : Name) × Leads g b b) → (o : Option (List Name)) → way_back g 0
-            (length g) a ≡ o → (b : Name) × Leads g b b
+        (length g) a ≡ o → (b : Name) × Leads g b b
     by_back later (Some v) d = (a, back-leads g 0 (length g) a v d)
     by_back later None d = later (sym (ap (λ o. option_or o (first_ring g more)) d) ∙ e)
 
@@ -209,11 +209,11 @@ ring-found g (b ∷ more) a w i e =
     by_back (λ j. ring-found g more a w j e) (way_back g 0 (length g) b) refl (in-cases a b more i)
   where
     by_back : (is_among more a ≡ true → (v : List Name) × (first_ring g more ≡ Some v)) → (o : Option (List Name)) →
-            way_back g 0 (length g) b ≡ o → (a ≡ b) ⊎ (is_among more a ≡ true) →
+        way_back g 0 (length g) b ≡ o → (a ≡ b) ⊎ (is_among more a ≡ true) →
         (v : List Name) × (first_ring g (b ∷ more) ≡ Some v)
     by_back further (Some v) d c = (v, ap (λ o. option_or o (first_ring g more)) d)
     by_back further None d (inl same) = absurd (none≢some (sym d ∙ subst (λ c. way_back g 0 (length g) c ≡
-            Some w) same e))
+        Some w) same e))
     by_back further None d (inr later) =
         let rest = further later in
         (rest.0, ap (λ o. option_or o (first_ring g more)) d ∙ rest.1)
@@ -245,7 +245,7 @@ among-in_order a (n ∷ ns) i =
     among-inserted a n (in_byte_order ns) (by_case (among-in_order a ns) (in-cases a n ns i))
   where
     by_case : (is_among ns a ≡ true → is_among (in_byte_order ns) a ≡ true) → (a ≡ n) ⊎ (is_among ns a ≡ true) →
-            is_among (n ∷ in_byte_order ns) a ≡ true
+        is_among (n ∷ in_byte_order ns) a ≡ true
     by_case further (inl e) = in-head a n (in_byte_order ns) e
     by_case further (inr j) = in-tail a n (in_byte_order ns) (further j)
 
@@ -258,7 +258,7 @@ leads-found g a l = by_way (shortest g a a _ (way_of g l).1)
         let fits = once-fits (a ∷ cs) (names g) o named in
         let many : length (names g) ≡ length g = length-map g header_name in
         let back = back-found g 0 (length g) (length cs) a (omega arith) (omega (arith, fits, many))
-                (listed g a a cs way) in
+        (listed g a a cs way) in
         ring-found g (in_byte_order (names g)) a back.0 (among-in_order a (names g) named.0) back.1
 
 pub rings_are_told : RingsAreTold

@@ -77,10 +77,10 @@ found-there ns (h ∷ hs) a b all i =
     by_test true e here later =
         kept-there ns h.imports b here
         (subst (λ t. is_among (map import_name (imports_in (cond t (Some h) (find
-                (λ h. same_name h.name a) hs)))) b ≡ true) e i)
+        (λ h. same_name h.name a) hs)))) b ≡ true) e i)
     by_test false e here later =
         later (subst (λ t. is_among (map import_name (imports_in (cond t (Some h) (find
-                (λ h. same_name h.name a) hs)))) b ≡ true) e i)
+        (λ h. same_name h.name a) hs)))) b ≡ true) e i)
 
 pub whole-differs : (g : Graph) → is_whole g ≡ true → all_differ (names g) ≡ true
 whole-differs g e = (and_parts (all_differ (names g)) _ e).0

@@ -73,7 +73,7 @@ not-shorter g b n p near known l e j less w = none≢some (sym e ∙ (known.leas
 -- what is known of a module stays
 pub widen-kept : (g : Graph) (b : Name) (n p j : ℕ) (o : Option ℕ) (found : Bool) (near : List (Option ℕ)) →
     p < length g → slice_index_or near p o ≡ Some j → ((q : Option ℕ) → slice_index_or near p q ≡
-            slice_index_or near p o) →
+    slice_index_or near p o) →
     Widened g b n p found near → Widened g b n (p + 1) found near
 widen-kept g b n p j o found near l e same h = record {
   all = h.all;
@@ -160,7 +160,7 @@ widen-noted g t n p d row found near o l k e places f h = record {
             (r.0, r.1, get_or-set_other near p i (Some n) q other ∙ r.2)
 
     lower : (i j : ℕ) (q : Option ℕ) → i < length g → slice_index_or (slice_set near p (Some n)) i q ≡ Some j →
-            j < n + 1
+        j < n + 1
     lower i j q m is = by_case (cases_eq i p)
       where
         by_case : (i ≡ p) ⊎ (i ≡ p → ⊥) → j < n + 1
@@ -184,7 +184,7 @@ widen-noted g t n p d row found near o l k e places f h = record {
 
 -- ---- where no module is noted, none comes later
 pub all-near : (g : Graph) (b : Name) (n : ℕ) (near : List (Option ℕ)) → Closed g → n < length g → Near g b
-        (n + 1) near →
+    (n + 1) near →
     ((i k : ℕ) (o : Option ℕ) → i < length g → slice_index_or near i o ≡ Some k → k < n) →
     ((a : Name) → is_among (names g) a ≡ true → (p : ℕ) × (p < length g) × (name_at g p ≡ a)) → Near g b (length g) near
 all-near g b n near closed m h quiet placed = record {
@@ -210,7 +210,7 @@ all-near g b n near closed m h quiet placed = record {
 no-way-back : (g : Graph) (a : Name) (k n : ℕ) → ((j : ℕ) → j < k + n → HasWay g j a a → ⊥) → way_back g k n a ≡ None
 no-way-back g a k zero none = refl
 no-way-back g a k (suc n) none = by_first (first_of (ways g k a a)) refl (no-way-back g a (suc k) n (λ j l. none j
-        (omega (arith, l))))
+    (omega (arith, l))))
   where
     by_first : (o : Option (List Name)) → first_of (ways g k a a) ≡ o → way_back g (suc k) n a ≡ None →
         way_back g k (suc n) a ≡ None
@@ -397,7 +397,7 @@ append-more (x ∷ xs) y zs = ap (λ ys. x ∷ ys) (append-more xs y zs)
 
 pub going-stops : (g : Graph) (near : List (Option ℕ)) (t count : ℕ) (way : List Name) (p left : ℕ) → Once (names g) →
     t < length g → Near g (name_at g t) (length g) near → Going g near t count way p left →
-            Stepped g near t left p None → ⊥
+    Stepped g near t left p None → ⊥
 going-stops g near t count way p left o l h so (row, places, is) =
     let there = h.there p left None so.within so.at in
     none-goes-on g t left near (name_at g p) row o l (known-so-far g (name_at g t) left near there.1 h)

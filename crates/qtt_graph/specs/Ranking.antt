@@ -9,7 +9,7 @@ use Rattle.qtt_graph.specs.Ranks.{rank, rank_within}
 pub record Known (g : Graph) (known : List (Option ℕ)) : Type 0 where
   pub all : length known ≡ length g
   pub ranks : (i r : ℕ) (o : Option ℕ) → i < length known → slice_index_or known i o ≡ Some r → rank g
-          (name_at g i) ≡ Some r
+      (name_at g i) ≡ Some r
 
 -- what is found by following so many imports: the rank, or that it takes more
 abbrev pub Found : Graph → ℕ → ℕ → Option ℕ → Type 0

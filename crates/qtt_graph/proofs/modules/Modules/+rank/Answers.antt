@@ -31,7 +31,7 @@ overflow_add-next t c =
     let g = graph_of c.args.self.now.texts.now in
     let row = c.imports-below-items.result.now in
     let there = within-at
-            (length g) row c.loop-below.below-index c.imports-below-items.ensures.within c.loop-below-test.true in
+    (length g) row c.loop-below.below-index c.imports-below-items.ensures.within c.loop-below-test.true in
     let below = rank-below g c.args.self.now.closed _ c.in_ok-next.next there c.in_ok-next.ensures.found in
     let long = graph-length c.args.self.now.texts.now in
     let all = c.requires.known.all in
@@ -46,7 +46,7 @@ loop-below-preserved t c =
       c.in_ok-next.ensures.known,
       rank-step (λ i. rank g (name_at g i)) row c.loop-below.below-index c.loop-below.rank c.in_ok-next.next
           c.loop-below-test.true c.loop-below.invariant.1 c.in_ok-next.ensures.found ∙ ap Some
-                  (max-is c.loop-below.rank (c.in_ok-next.next + 1) ∙ sym c.max-rank.ensures),
+          (max-is c.loop-below.rank (c.in_ok-next.next + 1) ∙ sym c.max-rank.ensures),
     )
 
 pub returns-clause-found : goal.returns-clause-found

@@ -9,7 +9,7 @@ use Rattle.qtt_graph.proofs.modules.Modules.by_rank.Goals as goal
 
 pub loop-place-init : goal.loop-place-init
 loop-place-init c = c.in_ok-levels.ensures ∙ sym (levels-empty c.args.ranks.now.items 0
-        (length c.args.self.now.texts.now))
+    (length c.args.self.now.texts.now))
 
 pub index-requires : goal.index-requires
 index-requires c =
@@ -27,9 +27,9 @@ index_mut-requires c =
     (c.deref-place-items.ensures.value ∙ self.ordered) c.loop-place-test.true in
     let all = c.requires.ranks.all in
     let is = c.index.ensures ∙ whatever-else c.args.ranks.now.items _ c.index.result.now 0 (omega
-            (arith, there, all)) in
+    (arith, there, all)) in
     let low = subst (λ r. r < length g) (sym is)
-            (rank-at g self.closed c.args.ranks.now.items _ c.requires.ranks there) in
+    (rank-at g self.closed c.args.ranks.now.items _ c.requires.ranks there) in
     let long = graph-length self.texts.now in
     let ok = c.loop-place.levels.ok in
     let many : length c.loop-place.levels.items ≡ length self.texts.now =
@@ -46,7 +46,7 @@ loop-place-preserved c =
     (c.deref-place-items.ensures.value ∙ self.ordered) c.loop-place-test.true in
     let all = c.requires.ranks.all in
     let is = c.index.ensures ∙ whatever-else c.args.ranks.now.items _ c.index.result.now 0 (omega
-            (arith, there, all)) in
+    (arith, there, all)) in
     let low = rank-at g self.closed c.args.ranks.now.items _ c.requires.ranks there in
     let long = graph-length self.texts.now in
     subst (λ r. map (λ l. l.items) (slice_set c.loop-place.levels.items r c.push.new.self) ≡

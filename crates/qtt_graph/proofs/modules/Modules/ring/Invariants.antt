@@ -7,4 +7,4 @@ use Rattle.qtt_graph.proofs.modules.Modules.ring.Given as goal
 abbrev pub invariant-loop-place : goal.invariant-loop-place
 invariant-loop-place l =
     first_ring (graph_of l.self.texts.now) (take l.place-index (in_byte_order (names (graph_of l.self.texts.now)))) ≡
-            None
+    None

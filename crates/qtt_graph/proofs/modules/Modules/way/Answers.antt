@@ -30,7 +30,7 @@ returns-then-left-eq0 c =
     let way = c.in_ok-push.ensures.items ∙ ap (λ n. c.loop-next.way.items ++ n ∷ []) c.in_ok-name.ensures in
     subst (IsFirstWay g c.args.count c.args.target c.args.target) (sym way)
     (going-ends g near c.args.target c.args.count c.loop-next.way.items c.loop-next.place c.loop-next.left
-            c.in-Some.next
+    c.in-Some.next
     (once (names g) self.differ) (omega (arith, there, long)) known c.loop-next.invariant step c.if-left-eq0.true)
 
 pub loop-next-preserved : goal.loop-next-preserved

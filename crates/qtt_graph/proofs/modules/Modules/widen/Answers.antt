@@ -26,14 +26,14 @@ loop-place-preserved c =
           (place-noted g c.args.target c.args.count c.loop-place.place c.loop-place.found c.loop-place.near.items
           c.index.result.now w.step.result one (omega (arith, target, long)) place c.index.ensures
           (ap not (c.is_none.ensures ∙ ap not w.if-is_none.true)) w.step.ensures (sym w.is_some.ensures ∙
-                  w.if-is_some.true)
+          w.if-is_some.true)
           c.loop-place.invariant)
       | else-is_none w ↦ rw (w.near-is, w.found-is) (elim w.else-is_none.branch [
         | else-is_none-via-then-is_none+else-is_some u ↦
             place-passed g c.args.target c.args.count c.loop-place.place c.loop-place.found c.loop-place.near.items
             c.index.result.now u.step.result one (omega (arith, target, long)) place c.index.ensures
             (ap not (c.is_none.ensures ∙ ap not u.if-is_none.true)) u.step.ensures (sym u.is_some.ensures ∙
-                    u.if-is_some.false)
+            u.if-is_some.false)
             c.loop-place.invariant
         | else-is_none-via-else-is_none u ↦
             place-kept g (name_at g c.args.target) c.args.count c.loop-place.place c.loop-place.found

@@ -9,7 +9,7 @@ use Rattle.qtt_graph.proofs.places.Places.all_imported.Goals as goal
 pub loop-import-preserved : goal.loop-import-preserved
 loop-import-preserved c =
     let step = λ (o : Option ℕ) (after : List ℕ). row-step (names
-            (graph_of c.args.self.now.texts.now)) c.args.imports.now
+    (graph_of c.args.self.now.texts.now)) c.args.imports.now
     c.loop-import.import-index c.import-item.result o c.loop-import.row.items after c.loop-import-test.true
     c.import-item.is c.loop-import.invariant in
     elim c.match-imported.branch [

@@ -17,7 +17,7 @@ loop-place-preserved c =
     let long = names-length texts in
     let inside : i < length ns = omega (arith, low, long) in
     let named = c.as_str-name.ensures.value ∙ ap (λ t. t.name) c.index-texts-place.is ∙ sym
-            (name-there texts i _ low) in
+    (name-there texts i _ low) in
     let there = c.is_some.ensures ∙ some-copied c.get.result ∙
     ap is_some (c.get.ensures.value ∙ c.loop-place.invariant.0 n) in
     elim c.if-is_some.branch [
