@@ -1,0 +1,80 @@
+-- What copies of trees are.
+use Rattle.std.proofs.Common.{◌≡◌, ◌∙◌, refl, ap, sym, subst, ℕ, zero, suc, ◌+◌, ◌-◌, ◌<◌, ◌≤◌, arith, Bool, true, false, List, [], ◌∷◌, Option, Some, None, if◌then◌else◌, nat_lt}
+use Rattle.qtt_base.specs.declared.place.Span.{Span}
+use Rattle.qtt_syntax.specs.declared.expr.Mark.{Mark}
+use Rattle.qtt_syntax.specs.declared.expr.Named.{Named}
+use Rattle.qtt_syntax.specs.declared.expr.Target.{Target}
+use Rattle.qtt_syntax.specs.declared.expr.Target.TheVariants as target
+use Rattle.qtt_syntax.specs.Tree.{Tree, Binders, Statement, Statements}
+use Rattle.qtt_syntax.specs.Tree.Tree.{name}
+use Rattle.qtt_implicit.specs.Moving.{Change, kept, at_binder, shifted, replaced_name, changed, changed_binders, changed_statements, count, bound, unknown}
+use Rattle.qtt_implicit.specs.Matching.{Slots}
+use Rattle.qtt_implicit.specs.Forgetting.{renumbering}
+use Rattle.qtt_implicit.specs.Slots.{moving, replacing, beyond, stands, seen}
+use Rattle.qtt_implicit.specs.Copies.{placing, span_at}
+use Rattle.qtt_implicit.specs.declared.filling.slots.Rest.{Rest}
+use Rattle.qtt_implicit.specs.declared.filling.slots.Rest.TheVariants as rest
+use Rattle.qtt_implicit.proofs.RenumberedTrees.{named, unmoved, shifted_binder}
+use Rattle.qtt_implicit.proofs.Changing.{Depths, Composed, composed, count_changed, bound_changed}
+use Rattle.qtt_implicit.proofs.Moves.{same_tree, below, not_below, free_stands, bound_stays, shifted_twice, shifted_under, seen_moved}
+
+-- ---- places
+
+-- places are changed alike behind any binders
+pub placed_anywhere : (p : Option Span) (d e : ℕ) (t : Tree) → changed (placing p) d t ≡ changed (placing p) e t
+placed_anywhere p d e t =
+    sym (unmoved (λ i. i) (λ i. refl) 0 (changed (placing p) d t))
+    ∙ composed (renumbering (λ i. i)) (placing p) (placing p) 0 d e
+    (record {
+      names = λ x n. unmoved (λ i. i) (λ i. refl) (x + 0)
+          (name (record { path = n.path; target = n.target; span = span_at p n.span }));
+      marks = λ m. refl;
+      spans = λ s. refl;
+    }) 0 d e (record { inside = 0; first = omega arith; second = omega arith; third = omega arith }) t
+
+-- no place is changed
+pub not_placed : (d : ℕ) (t : Tree) → changed (placing None) d t ≡ t
+not_placed d t = same_tree (placing None) (λ e n. refl) (λ m. refl) (λ s. refl) d t
+
+-- ---- what stands in a slot
+pub copied_seen : (p : Option Span) (m d : ℕ) (r : Rest) (k : ℕ) (σ : Slots) (t : Tree) →
+    changed (placing p) d (changed (moving m) d (shifted d (seen r k σ t))) ≡
+    changed (placing p) 0 (changed (moving (k + (d + m))) 0 (changed (replacing (stands r σ)) 0 t))
+copied_seen p m d r k σ t =
+    placed_anywhere p d 0 (changed (moving m) d (shifted d (seen r k σ t)))
+    ∙ ap (changed (placing p) 0) (shifted_under m d (seen r k σ t) ∙ seen_moved r k (d + m) σ t)
+
+pub copied_beyond : (p : Option Span) (m d k i : ℕ) (n : Named) →
+    changed (placing p) d (changed (moving m) d (shifted d (at_binder (i + k) n))) ≡
+    name (record { path = n.path; target = target.Local ((i + k) + (d + m)); span = span_at p n.span })
+copied_beyond p m d k i n =
+    ap (changed (placing p) d) (shifted_under m d (at_binder (i + k) n) ∙ shifted_binder (d + m) (i + k) n)
+
+-- ---- names
+pub copied_bound : (p : Option Span) (m d i : ℕ) (σ : ℕ → Named → Tree) (n : Named) → n.target ≡ target.Local i → i < d →
+    changed (placing p) d (changed (moving m) d (replaced_name σ d n (target.Local i))) ≡
+    name (record { path = n.path; target = target.Local i; span = span_at p n.span })
+copied_bound p m d i σ n e h =
+    let b = below i d h in
+    ap (λ (t : Tree). changed (placing p) d (changed (moving m) d t)) (bound_stays σ d i n h)
+    ∙ ap (changed (placing p) d) (still n.path n.target n.span e)
+    ∙ ap (λ (t : Target). name (record { path = n.path; target = t; span = span_at p n.span })) e
+  where
+    still : (q : List ℕ) (t : Target) (s : Span) → t ≡ target.Local i →
+        changed (moving m) d (name (named q t s)) ≡ name (named q t s)
+    still q (target.Local j) s f =
+        let same : j ≡ i = cc in
+        let b = below j d (subst (λ (x : ℕ). x < d) (sym same) h) in
+        rw b refl
+    still q (target.Global id) s f = refl
+    still q target.Unknown s f = refl
+
+pub copied_free : (p : Option Span) (m d i : ℕ) (σ : ℕ → Named → Tree) (n : Named) → d ≤ i →
+    changed (placing p) d (changed (moving m) d (replaced_name σ d n (target.Local i))) ≡
+    changed (placing p) d (changed (moving m) d (shifted d (σ (i - d) n)))
+copied_free p m d i σ n h =
+    ap (λ (t : Tree). changed (placing p) d (changed (moving m) d t)) (free_stands σ d i n h)
+
+-- ---- depths behind binders and statements, of which the first changes change none
+pub count_twice : (f g : Change) (d e : ℕ) (bs : Binders) → count (changed_binders f d (changed_binders g e bs)) ≡ count bs
+count_twice f g d e bs = count_changed f d (changed_binders g e bs) ∙ count_changed g e bs

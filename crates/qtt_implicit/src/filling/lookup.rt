@@ -1,0 +1,58 @@
+//! Signatures looked up.
+
+ghost use Rattle.std.specs.Prelude.{◌≡◌, map, option_map};
+ghost use Rattle.qtt_implicit.specs.Known.{exported as exported_by, own_signature, signature as signature_in, signature_named as named_in};
+ghost use Rattle.qtt_implicit.specs.KnownItems.{import_of, known_of, own_of};
+ghost use Rattle.qtt_implicit.specs.Signatures.{signature_of};
+
+use crate::filling::known::{Import, Known, OwnItem};
+use crate::filling::signature::Signature;
+use qtt_base::{GlobalId, Name};
+
+fn own<'a>(items: &[OwnItem<'a>], number: u32) -> Option<Signature<'a>>
+    ensures { option_map signature_of result ≡ own_signature (map own_of items.now) number }
+{
+    match items.get(number as usize) {
+        Some(item) => Some(item.sig),
+        None => None,
+    }
+}
+
+fn exported<'a>(imports: &[Import<'a>], id: GlobalId) -> Option<Signature<'a>>
+    ensures { option_map signature_of result ≡ exported_by (map import_of imports.now) id }
+{
+    for import in imports {
+        if import.exports.module.same(id.module) {
+            return match import.sigs.get(id.item as usize) {
+                Some(sig) => Some(*sig),
+                None => None,
+            };
+        }
+    }
+    None
+}
+
+impl<'a> Known<'a> {
+    /// The signature of an item.
+    pub fn signature(&self, id: GlobalId) -> Option<Signature<'a>>
+        ensures { option_map signature_of result ≡ signature_in (known_of self.now) id }
+    {
+        if id.module.same(self.home) {
+            own(&self.own, id.item)
+        } else {
+            exported(&self.imports, id)
+        }
+    }
+
+    /// The signature of the own item of a name.
+    pub fn signature_named(&self, name: &Name) -> Option<Signature<'a>>
+        ensures { option_map signature_of result ≡ named_in (known_of self.now) name.now }
+    {
+        for item in &self.own {
+            if item.name.same(name) {
+                return Some(item.sig);
+            }
+        }
+        None
+    }
+}
