@@ -173,7 +173,7 @@ module _ (f g h : Change) (i j k : ℕ) (c : Composed f g h i j k) where
         ∙ composed_statements (a + bound x) (b + bound x) (e + bound x) (more_in (bound x) i j k a b e w) more)
 
 -- ---- changes that are the same at each name
-same_depths : (d : ℕ) → Depths 0 0 0 d d d
+pub same_depths : (d : ℕ) → Depths 0 0 0 d d d
 same_depths d = record { inside = d; first = omega arith; second = omega arith; third = omega arith }
 
 module _ (g h : Change) (names : (d : ℕ) (n : Named) → g.name d n ≡ h.name d n)

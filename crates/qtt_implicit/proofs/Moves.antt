@@ -285,12 +285,12 @@ newest_stands x r σ d p (target.Local i) s = by (side i d) (side i (suc d))
     by (inl l) h =
         let a = below i d l in
         let b = below i (suc d) (omega arith) in
-        rw (b, a, a) refl
+        rw (b, a) refl
     by (inr l) (inl m) =
         let a = not_below i d l in
         let b = below i (suc d) m in
         let c : i - d ≡ 0 = omega arith in
-        rw (b, a, a, c) refl
+        rw (b, a, c) refl
     by (inr l) (inr m) =
         let n = named p (target.Local i) s in
         let c : i - d ≡ suc (i - suc d) = omega arith in

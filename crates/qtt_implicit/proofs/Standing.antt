@@ -1,5 +1,5 @@
 -- What free local names stand for, slot by slot.
-use Rattle.std.proofs.Common.{◌≡◌, ◌∙◌, refl, ap, sym, subst, ℕ, zero, suc, ◌+◌, ◌-◌, ◌<◌, ◌≤◌, arith, Bool, true, false, List, [], ◌∷◌, ◌++◌, reverse, append_assoc, Option, Some, None, if◌then◌else◌, nat_eq}
+use Rattle.std.proofs.Common.{Result, Ok, Err, IfOk, ◌≡◌, ◌∙◌, refl, ap, sym, subst, ℕ, zero, suc, ◌+◌, ◌-◌, ◌<◌, ◌≤◌, arith, Bool, true, false, List, [], ◌∷◌, ◌++◌, reverse, append_assoc, Option, Some, None, if◌then◌else◌, nat_eq}
 use Rattle.std.proofs.lemmas.List.{reverse-append}
 use Rattle.qtt_base.specs.declared.place.Span.{Span}
 use Rattle.qtt_syntax.specs.declared.expr.Named.{Named}
@@ -148,3 +148,34 @@ moved_none (Some t ∷ σ) =
 pub turned_more : (o : Option Tree) (σ τ : Slots) → reverse (o ∷ σ) ++ τ ≡ reverse σ ++ o ∷ τ
 turned_more o σ τ =
     ap (λ (ρ : Slots). ρ ++ τ) (reverse-append (o ∷ []) σ) ∙ append_assoc (reverse σ) (o ∷ []) τ
+
+-- a text type that stands in a slot, behind more binders
+pub moved_resolves : (s : Shared) (m k : ℕ) (x : Option Shared) → s.moved ≡ m + k → Resolves (shared_tree s) x →
+    Resolves (shifted k (seen s.rest m (slot_list s.slots.now) (node_tree s.tree.now))) x
+moved_resolves s m k x e h =
+    subst (λ (u : Tree). Resolves u x)
+    (ap (λ (d : ℕ). seen s.rest d (slot_list s.slots.now) (node_tree s.tree.now)) e
+    ∙ sym (seen_moved s.rest m k (slot_list s.slots.now) (node_tree s.tree.now))) h
+
+-- a slot that is moved, and its weight
+pub moved_slot_more : (r : Rest) (m k d : ℕ) (σ : Slots) (t : Tree) (w : Weight) → d ≡ m + k →
+    w ≡ weight_of (seen r m σ t) → (seen r d σ t ≡ shifted k (seen r m σ t)) × (w ≡ weight_of (seen r d σ t))
+moved_slot_more r m k d σ t w e h =
+    let same = ap (λ (x : ℕ). seen r x σ t) e ∙ sym (seen_moved r m k σ t) in
+    (same, h ∙ sym (weight_shifted k (seen r m σ t)) ∙ sym (ap weight_of same))
+
+-- a slot takes what is known
+pub taken : (u : Tree) (σ : Slots) (i : ℕ) → i ≡ 0 → is_known u ≡ true → fill_slot i u (None ∷ σ) ≡ Some u ∷ σ
+taken u σ i e k =
+    fill_first u None σ i e
+    ∙ ap (λ (b : Bool). (if b then Some u else None) ∷ σ) k
+
+pub not_taken : (u : Tree) (σ : Slots) (i : ℕ) → i ≡ 0 → is_known u ≡ false → fill_slot i u (None ∷ σ) ≡ None ∷ σ
+not_taken u σ i e k =
+    fill_first u None σ i e
+    ∙ ap (λ (b : Bool). (if b then Some u else None) ∷ σ) k
+
+-- ---- what holds of a value that there is
+pub if_ok : {A E : Type 0} (r : Result A E) (P Q : A → Type 0) → ((a : A) → P a → Q a) → IfOk r P → IfOk r Q
+if_ok (Ok a) P Q f h = f a h
+if_ok (Err e) P Q f h = h

@@ -57,3 +57,8 @@ beyond_unknown i n = refl
 
 pub beyond_outer : (k i : ℕ) (n : Named) → weight_of (beyond (rest.Outer k) i n) ≡ weight 1 0
 beyond_outer k i n = refl
+
+-- ---- sums
+pub sum_two : (n u m v : ℕ) {x y r : Weight} → x ≡ weight n u → y ≡ weight m v → r ≡ both x y →
+    r ≡ weight (n + m) (u + v)
+sum_two n u m v e f g = g ∙ ap₂ both e f ∙ both_weights n u m v

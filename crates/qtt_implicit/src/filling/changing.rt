@@ -17,7 +17,7 @@ pub fn with_slot<'a>(
     text: Shared<'a>,
 ) -> Result<&'a Slots<'a>, MemoryError>
     requires slots { IsSound slots.now }
-    requires text { IsSound text.entry.slots.now }
+    requires text { IsSound text.slots.now }
     ensures { IfOk result (λ r. AreSlots
         (fill_slot index (shared_tree text.entry) (slot_list slots.now)) r.now) }
 {

@@ -70,7 +70,7 @@ pub fn standing<'a>(
 impl<'a> Shared<'a> {
     /// The same, where its tree is no name of a filled slot.
     pub fn resolved(self) -> Result<Shared<'a>, MemoryError>
-        requires { IsSound self.entry.slots.now }
+        requires { IsSound self.slots.now }
         ensures { IfOk result (λ s. Resolves (shared_tree self.entry) (Some s)) }
     {
         match self.tree.local() {
@@ -84,7 +84,7 @@ impl<'a> Shared<'a> {
 
     /// Its weight.
     pub fn weight(self) -> Result<Weight, MemoryError>
-        requires { IsSound self.entry.slots.now }
+        requires { IsSound self.slots.now }
         ensures { IfOk result (λ w. w ≡ weight_of (shared_tree self.entry)) }
     {
         weigh(self.tree, 0, self.slots, self.rest)
