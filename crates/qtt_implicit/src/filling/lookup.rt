@@ -22,7 +22,7 @@ fn exported<'a>(imports: &[Import<'a>], id: GlobalId) -> Option<Signature<'a>>
     ensures { option_map signature_of result ≡ exported_by (map import_of imports.now) id }
 {
     for import in imports {
-        if import.exports.module.same(id.module) {
+        if import.exports.module.0 == id.module.0 {
             return match import.sigs.get(id.item as usize) {
                 Some(sig) => Some(*sig),
                 None => None,
@@ -37,7 +37,7 @@ impl<'a> Known<'a> {
     pub fn signature(&self, id: GlobalId) -> Option<Signature<'a>>
         ensures { option_map signature_of result ≡ signature_in (known_of self.now) id }
     {
-        if id.module.same(self.home) {
+        if id.module.0 == self.home.0 {
             own(&self.own, id.item)
         } else {
             exported(&self.imports, id)
@@ -49,7 +49,7 @@ impl<'a> Known<'a> {
         ensures { option_map signature_of result ≡ named_in (known_of self.now) name.now }
     {
         for item in &self.own {
-            if item.name.same(name) {
+            if *item.name == *name {
                 return Some(item.sig);
             }
         }

@@ -1,6 +1,7 @@
 //! Text types: what they are made of, and what they give.
 
 ghost use Rattle.std.specs.Prelude.{◌≡◌, [], ◌∷◌, IfOk};
+ghost use Rattle.qtt_syntax.specs.Tree.{Arguments};
 ghost use Rattle.qtt_implicit.specs.Moving.{shifted, unknown as unknown_tree};
 ghost use Rattle.qtt_implicit.specs.Matching.{codomain as codomain_of, instance as instance_of};
 ghost use Rattle.qtt_implicit.specs.Nodes.{node_tree};
@@ -78,7 +79,8 @@ impl<'a> TextType<'a> {
     /// Another tree with the same slots.
     pub fn at(self, tree: &'a Node<'a>) -> TextType<'a>
         ensures tree { type_tree result ≡ tree_in self.entry.shared (node_tree tree.now) }
-        ensures slots { result.shared.slots ≡ self.entry.shared.slots }
+        ensures arguments { (xs : Arguments) → arguments_in result.shared xs ≡ arguments_in
+            self.entry.shared xs }
     {
         TextType {
             shared: Shared {
