@@ -11,7 +11,9 @@ use Rattle.qtt_implicit.specs.Moving.{Change, changed, changed_arguments, unknow
 use Rattle.qtt_implicit.specs.Matching.{Slots, argument_count, matched, matched_arguments, codomain, codomains, instance}
 use Rattle.qtt_implicit.specs.Walk.{Given, given_to, given_tree, is_written, is_braced, is_io, not_in_braces, in_braces, result_type}
 use Rattle.qtt_implicit.specs.Slots.{Form, form, global_of}
-use Rattle.qtt_implicit.specs.TextTypes.{is_applied, global_name}
+use Rattle.qtt_implicit.specs.Slots.{moving, replacing, slot_list, stands}
+use Rattle.qtt_implicit.specs.TextTypes.{is_applied, global_name, arguments_in}
+use Rattle.qtt_implicit.specs.declared.filling.slots.Shared.{Shared}
 use Rattle.qtt_implicit.proofs.Back.{filter_yes, filter_no}
 
 -- ---- forms
@@ -97,6 +99,25 @@ unmatched f xs s (doing ss r) σ e = refl
 pub count_same : (c : Change) (d : ℕ) (xs : Arguments) → argument_count (changed_arguments c d xs) ≡ argument_count xs
 count_same c d no_argument = refl
 count_same c d (argument_and x more) = ap suc (count_same c d more)
+
+pub count_in : (s : Shared) (xs : Arguments) → argument_count (arguments_in s xs) ≡ argument_count xs
+count_in s xs =
+    count_same (moving s.moved) 0 (changed_arguments (replacing (stands s.rest (slot_list s.slots.now))) 0 xs)
+    ∙ count_same (replacing (stands s.rest (slot_list s.slots.now))) 0 xs
+
+-- two applications of as many arguments, and of others
+pub matched_applied : (f g : Tree) (xs ys : Arguments) (s r : Span) (u : Tree) (σ : Slots) → u ≡ apply g ys r →
+    nat_eq (argument_count xs) (argument_count ys) ≡ true →
+    matched (apply f xs s) u σ ≡ matched_arguments xs ys (matched f g σ)
+matched_applied f g xs ys s r u σ e h =
+    ap (λ (v : Tree). matched (apply f xs s) v σ) e
+    ∙ ap (λ (b : Bool). if b then matched_arguments xs ys (matched f g σ) else σ) h
+
+pub matched_uneven : (f g : Tree) (xs ys : Arguments) (s r : Span) (u : Tree) (σ : Slots) → u ≡ apply g ys r →
+    nat_eq (argument_count xs) (argument_count ys) ≡ false → matched (apply f xs s) u σ ≡ σ
+matched_uneven f g xs ys s r u σ e h =
+    ap (λ (v : Tree). matched (apply f xs s) v σ) e
+    ∙ ap (λ (b : Bool). if b then matched_arguments xs ys (matched f g σ) else σ) h
 
 pub unmatched_arguments : (xs : Arguments) (σ : Slots) → matched_arguments xs no_argument σ ≡ σ
 unmatched_arguments no_argument σ = refl

@@ -1,6 +1,6 @@
 //! Signatures looked up.
 
-ghost use Rattle.std.specs.Prelude.{◌≡◌, map, option_map};
+ghost use Rattle.std.specs.Prelude.{◌≡◌, map, option_map, slice_get};
 ghost use Rattle.qtt_implicit.specs.Known.{exported as exported_by, own_signature, signature as signature_in, signature_named as named_in};
 ghost use Rattle.qtt_implicit.specs.KnownItems.{import_of, known_of, own_of};
 ghost use Rattle.qtt_implicit.specs.Signatures.{signature_of};
@@ -18,15 +18,21 @@ fn own<'a>(items: &[OwnItem<'a>], number: u32) -> Option<Signature<'a>>
     }
 }
 
+fn numbered<'a>(sigs: &[Signature<'a>], number: u32) -> Option<Signature<'a>>
+    ensures { option_map signature_of result ≡ slice_get (map signature_of sigs.now) number }
+{
+    match sigs.get(number as usize) {
+        Some(sig) => Some(*sig),
+        None => None,
+    }
+}
+
 fn exported<'a>(imports: &[Import<'a>], id: GlobalId) -> Option<Signature<'a>>
     ensures { option_map signature_of result ≡ exported_by (map import_of imports.now) id }
 {
     for import in imports {
         if import.exports.module.0 == id.module.0 {
-            return match import.sigs.get(id.item as usize) {
-                Some(sig) => Some(*sig),
-                None => None,
-            };
+            return numbered(&import.sigs, id.item);
         }
     }
     None
