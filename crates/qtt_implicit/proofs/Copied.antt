@@ -5,8 +5,16 @@ use Rattle.qtt_syntax.specs.declared.expr.Mark.{Mark}
 use Rattle.qtt_syntax.specs.declared.expr.Named.{Named}
 use Rattle.qtt_syntax.specs.declared.expr.Target.{Target}
 use Rattle.qtt_syntax.specs.declared.expr.Target.TheVariants as target
-use Rattle.qtt_syntax.specs.Tree.{Tree, Binders, Statement, Statements}
-use Rattle.qtt_syntax.specs.Tree.Tree.{name}
+use Rattle.qtt_syntax.specs.declared.expr.Local.{Local}
+use Rattle.qtt_usage.specs.declared.mult.Mult.{Mult}
+use Rattle.qtt_syntax.specs.Tree.{Tree, Annotation, Argument, Arguments, Binder, Binders, Statement, Statements}
+use Rattle.qtt_syntax.specs.Tree.Tree.{name, the, apply, pi, lambda, letting, doing}
+use Rattle.qtt_syntax.specs.Tree.Argument.{argument}
+use Rattle.qtt_syntax.specs.Tree.Arguments.{no_argument, argument_and}
+use Rattle.qtt_syntax.specs.Tree.Binder.{plain, typed_binder}
+use Rattle.qtt_syntax.specs.Tree.Binders.{no_binder, binder_and}
+use Rattle.qtt_syntax.specs.Tree.Statement.{bind, local, run}
+use Rattle.qtt_syntax.specs.Tree.Statements.{no_statement, statement_and}
 use Rattle.qtt_implicit.specs.Moving.{Change, kept, at_binder, shifted, replaced_name, changed, changed_binders, changed_statements, count, bound, unknown}
 use Rattle.qtt_implicit.specs.Matching.{Slots}
 use Rattle.qtt_implicit.specs.Forgetting.{renumbering}
@@ -78,3 +86,57 @@ copied_free p m d i σ n h =
 -- ---- depths behind binders and statements, of which the first changes change none
 pub count_twice : (f g : Change) (d e : ℕ) (bs : Binders) → count (changed_binders f d (changed_binders g e bs)) ≡ count bs
 count_twice f g d e bs = count_changed f d (changed_binders g e bs) ∙ count_changed g e bs
+
+-- the body of a `\`
+pub lambda_body : (f g h : Change) (d e : ℕ) (bs : Binders) (t : Tree) → e ≡ d + count bs →
+    changed f e (changed g e (changed h e t)) ≡
+    changed f (d + count (changed_binders g d (changed_binders h d bs)))
+    (changed g (d + count (changed_binders h d bs)) (changed h (d + count bs) t))
+lambda_body f g h d e bs t p =
+    ap (λ (k : ℕ). changed f k (changed g k (changed h k t))) p
+    ∙ sym (ap (λ (k : ℕ). changed f (d + k) (changed g (d + count bs) (changed h (d + count bs) t)))
+    (count_twice g h d d bs))
+    ∙ sym (ap (λ (k : ℕ). changed f (d + count (changed_binders g d (changed_binders h d bs)))
+    (changed g (d + k) (changed h (d + count bs) t))) (count_changed h d bs))
+
+-- ---- forms whose parts are the same
+pub the_same : {t u e f : Tree} {s r : Span} → t ≡ u → e ≡ f → s ≡ r → the t e s ≡ the u f r
+the_same p q o = cc
+
+pub apply_same : {t u : Tree} {xs ys : Arguments} {s r : Span} → t ≡ u → xs ≡ ys → s ≡ r → apply t xs s ≡ apply u ys r
+apply_same p q o = cc
+
+pub pi_same : (k : Mark) (m : Mult) (n : List ℕ) {a b c d : Tree} {s r : Span} → a ≡ c → b ≡ d → s ≡ r →
+    pi k m n a b s ≡ pi k m n c d r
+pi_same k m n p q o = cc
+
+pub lambda_same : {xs ys : Binders} {t u : Tree} {s r : Span} → xs ≡ ys → t ≡ u → s ≡ r → lambda xs t s ≡ lambda ys u r
+lambda_same p q o = cc
+
+pub letting_same : (m : Mult) {n l : Local} {t u : Annotation} {a b c d : Tree} {s r : Span} → n ≡ l → t ≡ u → a ≡ c →
+    b ≡ d → s ≡ r → letting m n t a b s ≡ letting m l u c d r
+letting_same m e f p q o = cc
+
+pub argument_same : (k : Mark) {t u : Tree} {xs ys : Arguments} → t ≡ u → xs ≡ ys →
+    argument_and (argument k t) xs ≡ argument_and (argument k u) ys
+argument_same k p q = cc
+
+pub plain_same : {n l : Local} {xs ys : Binders} → n ≡ l → xs ≡ ys →
+    binder_and (plain n) xs ≡ binder_and (plain l) ys
+plain_same p q = cc
+
+pub typed_same : (m : Mult) {n l : Local} {t u : Tree} {s r : Span} {xs ys : Binders} → n ≡ l → t ≡ u → s ≡ r → xs ≡ ys →
+    binder_and (typed_binder m n t s) xs ≡ binder_and (typed_binder m l u r) ys
+typed_same m e p o q = cc
+
+pub bind_same : {n l : Local} {t u : Tree} {xs ys : Statements} → n ≡ l → t ≡ u → xs ≡ ys →
+    statement_and (bind n t) xs ≡ statement_and (bind l u) ys
+bind_same e p q = cc
+
+pub local_same : (m : Mult) {n l : Local} {a b : Annotation} {t u : Tree} {s r : Span} {xs ys : Statements} → n ≡ l →
+    a ≡ b → t ≡ u → s ≡ r → xs ≡ ys → statement_and (local m n a t s) xs ≡ statement_and (local m l b u r) ys
+local_same m e f p o q = cc
+
+pub run_same : {t u : Tree} {s r : Span} {xs ys : Statements} → t ≡ u → s ≡ r → xs ≡ ys →
+    statement_and (run t s) xs ≡ statement_and (run u r) ys
+run_same p o q = cc

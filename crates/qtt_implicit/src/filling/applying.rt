@@ -1,7 +1,8 @@
 //! Applications of names, in which slots are filled.
 
-ghost use Rattle.std.specs.Prelude.{◌≡◌, ◌++◌, ◌+◌, ℕ, Some, None, List, drop, length, map, min, replicate, reverse, take, IfOk, MatchResult};
+ghost use Rattle.std.specs.Prelude.{◌≡◌, ◌++◌, ◌+◌, ℕ, Some, None, List, drop, length, map, min, replicate, reverse, take, IfOk, IsTrue, MatchResult};
 ghost use Rattle.qtt_syntax.specs.Tree.{Argument, arguments as arguments_of};
+ghost use Rattle.qtt_syntax.specs.Tree.Arguments.{argument_and};
 ghost use Rattle.qtt_implicit.specs.Copies.{placing};
 ghost use Rattle.qtt_implicit.specs.Moving.{changed};
 ghost use Rattle.qtt_implicit.specs.Nodes.{argument_row, node_tree, used_name};
@@ -134,25 +135,77 @@ pub fn inserted<'a>(
 }
 
 impl<'a> Shared<'a> {
-    /// The expression in a slot, at a place if one is given.
-    fn expression(
-        self,
-        arena: &'a Bump,
-        place: Option<Span>,
-    ) -> Result<&'a Node<'a>, MemoryError>
+    /// Whether nothing is put in and nothing is moved.
+    fn is_plain(self) -> bool
+        ensures { IsTrue result → shared_tree self.entry ≡ node_tree self.entry.tree.now }
+    {
+        match self.slots {
+            Slots::End => match self.rest {
+                Rest::Outer(by) => by == 0 && self.moved == 0,
+                Rest::Unknown => false,
+            },
+            Slots::Empty(_) | Slots::Filled { .. } => false,
+        }
+    }
+
+    /// The expression in a slot, each place this one if it is given.
+    fn copy(self, arena: &'a Bump, place: Option<Span>) -> Result<&'a Node<'a>, MemoryError>
         ensures { IfOk result (λ t. node_tree t.now ≡ changed (placing place) 0
             (shared_tree self.entry)) }
     {
-        match (place, self.slots, self.rest, self.moved) {
-            (None, Slots::End, Rest::Outer(0), 0) => Ok(self.tree),
-            _ => Copying {
+        let copying = Copying {
+            arena,
+            slots: self.slots,
+            rest: self.rest,
+            moved: self.moved,
+            place,
+        };
+        copying.node(self.tree, 0)
+    }
+
+    /// The expression in a slot.
+    fn expression(self, arena: &'a Bump) -> Result<&'a Node<'a>, MemoryError>
+        ensures { IfOk result (λ t. node_tree t.now ≡ shared_tree self.entry) }
+    {
+        if self.is_plain() {
+            Ok(self.tree)
+        } else {
+            self.copy(arena, None)
+        }
+    }
+
+    /// The argument that fills a slot, where so many that were written are still to come, and
+    /// behind it others.
+    fn argument(
+        self,
+        arena: &'a Bump,
+        written: u32,
+        place: Span,
+        others: &'a Arguments<'a>,
+    ) -> Result<&'a Arguments<'a>, MemoryError>
+        ensures { IfOk result (λ r. argument_row r.now ≡ argument_and
+            (slot_argument place written (shared_tree self.entry)) (argument_row others.now)) }
+    {
+        if written == 0 {
+            let value = self.copy(arena, Some(place))?;
+            placed(
                 arena,
-                slots: self.slots,
-                rest: self.rest,
-                moved: self.moved,
-                place,
-            }
-            .node(self.tree, 0),
+                Arguments::More {
+                    mark: Mark::Inserted,
+                    value,
+                    others,
+                },
+            )
+        } else {
+            let value = self.expression(arena)?;
+            placed(
+                arena,
+                Arguments::More {
+                    mark: Mark::Braced,
+                    value,
+                    others,
+                },
+            )
         }
     }
 }
@@ -179,19 +232,7 @@ pub fn filled_row<'a>(
                 Slots::Filled { text, older, .. } => {
                     let later = written.saturating_sub(1);
                     let others = filled_row(codomain, arena, braces, older, later, place, others)?;
-                    let (mark, value) = if written == 0 {
-                        (Mark::Inserted, text.expression(arena, Some(place))?)
-                    } else {
-                        (Mark::Braced, text.expression(arena, None)?)
-                    };
-                    placed(
-                        arena,
-                        Arguments::More {
-                            mark,
-                            value,
-                            others,
-                        },
-                    )
+                    text.argument(arena, written, place, others)
                 }
             },
             _ => Ok(others),
