@@ -87,7 +87,7 @@ turned_empties (suc n) =
 pub one_more_empty : (n : ℕ) (σ : Slots) → None ∷ (empties n ++ σ) ≡ empties (n + 1) ++ σ
 one_more_empty n σ = let e : suc n ≡ n + 1 = omega arith in ap (λ (k : ℕ). empties k ++ σ) e
 
-abbrev some : Tree → Option Tree
+abbrev pub some : Tree → Option Tree
 some t = Some t
 
 -- the slots in front, turned round
@@ -117,7 +117,9 @@ turned_params k t ts σ =
 
 pub turned_none : (k : ℕ) (σ : Slots) → reverse (slots_of k (take k [])) ++ σ ≡ empties k ++ σ
 turned_none zero σ = refl
-turned_none (suc k) σ = ap (λ (τ : Slots). τ ++ σ) (turned_empties (suc k))
+turned_none (suc k) σ =
+    let e : suc k - 0 ≡ suc k = omega arith in
+    ap (λ (n : ℕ). reverse (empties n) ++ σ) e ∙ ap (λ (τ : Slots). τ ++ σ) (turned_empties (suc k))
 
 -- ---- nodes that are inserted
 weight_nodes : (n u : ℕ) → (weight n u).nodes ≡ min n 1000001
@@ -139,3 +141,25 @@ pub inserted_later : (s : Span) (k : ℕ) (x : List ℕ) (xs : List (List ℕ)) 
     sum_by inserted_nodes (solved s (suc k - 1) xs ts)
 inserted_later s k x xs t ts =
     sum_more inserted_nodes (argument Braced t) (solved s (suc k - 1) xs ts) ∙ omega arith
+
+-- a slot that is filled where none that were written are to come, and one where some are
+pub counted_first : (s : Span) (k l : ℕ) (w : Weight) (x : List ℕ) (xs : List (List ℕ)) (t : Tree)
+    (ts : List (Option Tree)) (r total : ℕ) → k ≡ 0 → l ≡ k - 1 → w ≡ weight_of t →
+    r ≡ min (sum_by inserted_nodes (solved s l xs ts)) 1000001 → total ≡ min (w.nodes + r) 1000001 →
+    total ≡ min (sum_by inserted_nodes (solved s k (x ∷ xs) (Some t ∷ ts))) 1000001
+counted_first s (suc k) l w x xs t ts r total e f h g o = absurd (omega arith)
+counted_first s zero l w x xs t ts r total e f h g o =
+    let a = inserted_first s x xs t ts in
+    let n = nodes_weight w t h in
+    let m = ap (λ (j : ℕ). sum_by inserted_nodes (solved s j xs ts)) f in
+    omega (arith, a, n, m, g, o)
+
+pub counted_later : (s : Span) (k l : ℕ) (x : List ℕ) (xs : List (List ℕ)) (t : Tree)
+    (ts : List (Option Tree)) (r : ℕ) → 0 < k → l ≡ k - 1 →
+    r ≡ min (sum_by inserted_nodes (solved s l xs ts)) 1000001 →
+    r ≡ min (sum_by inserted_nodes (solved s k (x ∷ xs) (Some t ∷ ts))) 1000001
+counted_later s zero l x xs t ts r e f g = absurd (omega arith)
+counted_later s (suc k) l x xs t ts r e f g =
+    let a = inserted_later s k x xs t ts in
+    let m = ap (λ (j : ℕ). sum_by inserted_nodes (solved s j xs ts)) f in
+    omega (arith, a, m, g)

@@ -51,6 +51,7 @@ pub fn count_braced(givens: &Givens) -> Result<u32, MemoryError>
 }
 
 /// More slots that are not filled.
+#[tactic(auto, using(crate::proofs::Braces::one_more_empty))]
 pub fn empty_slots<'a>(
     mut slots: OpenSlots<'a>,
     arena: &'a Bump,
