@@ -3,7 +3,8 @@ use Rattle.std.specs.Prelude.{◌≡◌, ℕ, ◌-◌, min, List, [], ◌∷◌,
 use Rattle.qtt_base.specs.declared.place.Span.{Span}
 use Rattle.qtt_syntax.specs.Tree.{Tree, Argument, Arguments}
 use Rattle.qtt_syntax.specs.Tree.Arguments.{no_argument, argument_and}
-use Rattle.qtt_implicit.specs.Walk.{slot_argument, inserted_nodes}
+use Rattle.qtt_names.specs.Exports.{Sig}
+use Rattle.qtt_implicit.specs.Walk.{behind_binders, binder_names, slot_argument, inserted_nodes}
 
 -- the first binder whose slot is not filled
 abbrev pub first_unsolved : List (List ℕ) → List (Option Tree) → Option (List ℕ)
@@ -27,3 +28,7 @@ IsInserted n k xs ts = (s : Span) → n ≡ min (sum_by inserted_nodes (solved s
 abbrev pub in_front : List Argument → Arguments → Arguments
 in_front [] ys = ys
 in_front (x ∷ xs) ys = argument_and x (in_front xs ys)
+
+-- the names of a signature's binders in braces
+abbrev pub names_in_braces : Sig → List (List ℕ)
+names_in_braces S = binder_names S.braces (behind_binders S.params S.type)

@@ -1,14 +1,15 @@
 //! Applications of names with a signature, and of others.
 
-ghost use Rattle.std.specs.Prelude.{◌≡◌, ◌+◌, length, IfOk};
+ghost use Rattle.std.specs.Prelude.{◌≡◌, ◌+◌, ◌++◌, length, map, take, IfOk};
 ghost use Rattle.qtt_syntax.specs.Tree.Tree.{name};
 ghost use Rattle.qtt_implicit.specs.Judging.{AreJudged, judged_pair};
 ghost use Rattle.qtt_implicit.specs.KnownItems.{known_of};
 ghost use Rattle.qtt_implicit.specs.Meeting.{Meets};
 ghost use Rattle.qtt_implicit.specs.Nodes.{node_tree, used_name};
 ghost use Rattle.qtt_implicit.specs.Signatures.{signature_of};
+ghost use Rattle.qtt_implicit.specs.Solving.{names_in_braces, solved};
 ghost use Rattle.qtt_implicit.specs.TextTypes.{given_list, local_types, open_list, type_tree, walked_of};
-ghost use Rattle.qtt_implicit.specs.Walk.{applied as applied_tree, applied_local as local_applied, applied_name as name_applied, at_slots as tree_at_slots, behind_binders as tree_behind, given_to as slots_and_type, in_braces, not_in_braces, open_slots as slots_in_front, plainly_applied as plain_tree};
+ghost use Rattle.qtt_implicit.specs.Walk.{applied as applied_tree, applied_local as local_applied, applied_name as name_applied, application as application_of, at_slots as tree_at_slots, behind_binders as tree_behind, brace_slots, given_argument, given_to as slots_and_type, in_braces, not_in_braces, open_slots as slots_in_front, plainly_applied as plain_tree, walked};
 
 use crate::filling::applying::{
     application, behind_binders, behind_slots, braced_slots, count_braced, empty_slots, filled_row,
@@ -21,7 +22,6 @@ use crate::filling::left::Left;
 use crate::filling::locals::type_at;
 use crate::filling::parts::{Locals, Walked};
 use crate::filling::signature::{Call, Signature};
-use crate::filling::slots::Slots;
 use crate::filling::stop::Stop;
 use crate::filling::text_type::{OpenSlots, TextType};
 use crate::filling::trees::{Node, placed};
@@ -37,7 +37,7 @@ impl<'a> Signature<'a> {
         call: Call<'a>,
         found: u32,
     ) -> Result<OpenSlots<'a>, MemoryError>
-        requires { found ≡ length (in_braces (given_list call.entry.givens.now)) }
+        requires { found ≡ length (in_braces (given_list call.givens.now)) }
         ensures { IfOk result (λ s. open_list s ≡ slots_in_front (signature_of self.entry)
             (in_braces (given_list call.entry.givens.now))) }
     {
@@ -54,7 +54,7 @@ impl<'a> Signature<'a> {
         call: Call<'a>,
         found: u32,
     ) -> Result<Judged<'a>, MemoryError>
-        requires { found ≡ length (in_braces (given_list call.entry.givens.now)) }
+        requires { found ≡ length (in_braces (given_list call.givens.now)) }
         ensures { IfOk result (λ j. AreJudged j (slots_and_type
             (slots_in_front (signature_of self.entry) (in_braces (given_list call.entry.givens.now)))
             (tree_behind (self.entry.params + self.entry.braces) (node_tree self.entry.ty.now))
@@ -63,6 +63,51 @@ impl<'a> Signature<'a> {
         let slots = self.open_slots(arena, call, found)?;
         let chain = behind_binders(behind_binders(self.ty, self.params), self.braces);
         given_to(call.givens, arena, chain, slots)
+    }
+
+    /// The slots behind the parameters, in the order of their binders.
+    fn brace_row(
+        self,
+        arena: &'a Bump,
+        slots: OpenSlots<'a>,
+    ) -> Result<OpenSlots<'a>, MemoryError>
+        ensures { IfOk result (λ s. take self.entry.braces (open_list s) ≡ brace_slots
+            (signature_of self.entry) (open_list slots.entry)) }
+    {
+        let none = OpenSlots::none(arena)?;
+        let turned = OpenSlots {
+            slots: turned(slots.slots, arena, none.slots)?,
+        };
+        Ok(OpenSlots {
+            slots: behind_slots(turned.slots, self.params),
+        })
+    }
+
+    /// The application, whose arguments in braces stand in these slots.
+    fn filled(
+        self,
+        arena: &'a Bump,
+        call: Call<'a>,
+        judged: Judged<'a>,
+        slots: OpenSlots<'a>,
+        found: u32,
+    ) -> Result<Walked<'a>, MemoryError>
+        ensures { IfOk result (λ w. walked_of w ≡ walked (application_of
+            (name (used_name call.entry.name)) (solved call.entry.name.span found
+            (names_in_braces (signature_of self.entry))
+            (take self.entry.braces (open_list slots.entry)) ++ map given_argument
+            (not_in_braces (given_list call.entry.givens.now))) call.entry.span)
+            (type_tree judged.entry.ty)) }
+    {
+        let chain = behind_binders(self.ty, self.params);
+        let place = call.name.span;
+        let written = written_row(call.givens, arena)?;
+        let row = filled_row(chain, arena, self.braces, slots.slots, found, place, written)?;
+        let name = placed(arena, Node::Name(call.name))?;
+        Ok(Walked {
+            tree: application(name, arena, row, call.span)?,
+            ty: judged.ty,
+        })
     }
 
     /// The application, where its slots are filled and its text type is known.
@@ -74,30 +119,22 @@ impl<'a> Signature<'a> {
         found: u32,
         left: &mut Left,
     ) -> Result<Walked<'a>, Stop<'a>>
-        requires { found ≡ length (in_braces (given_list call.entry.givens.now)) }
+        requires { found ≡ length (in_braces (given_list call.givens.now)) }
         ensures { Meets walked_of result (tree_at_slots (signature_of self.entry)
             (used_name call.entry.name) (given_list call.entry.givens.now) call.entry.span
             (judged_pair judged.entry) left.old.nodes) left.new.nodes }
     {
-        let slots = turned(judged.slots.slots, arena, placed(arena, Slots::End)?)?;
-        let slots = behind_slots(slots, self.params);
+        let slots = self.brace_row(arena, judged.slots)?;
         let chain = behind_binders(self.ty, self.params);
-        match inserted(chain, self.braces, slots, found) {
+        match inserted(chain, self.braces, slots.slots, found) {
             Err(name) => Err(Stop::Unsolved {
                 name,
                 span: call.name.span,
             }),
-            Ok(nodes) => {
-                left.put(nodes)?;
-                let written = written_row(call.givens, arena)?;
-                let place = call.name.span;
-                let row = filled_row(chain, arena, self.braces, slots, found, place, written)?;
-                let name = placed(arena, Node::Name(call.name))?;
-                Ok(Walked {
-                    tree: application(name, arena, row, call.span)?,
-                    ty: judged.ty,
-                })
-            }
+            Ok(nodes) => match left.put(nodes) {
+                Err(stop) => Err(stop),
+                Ok(()) => Ok(self.filled(arena, call, judged, slots, found)?),
+            },
         }
     }
 

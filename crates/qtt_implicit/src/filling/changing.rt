@@ -125,8 +125,10 @@ pub fn turned<'a>(
     arena: &'a Bump,
     behind: &'a Slots<'a>,
 ) -> Result<&'a Slots<'a>, MemoryError>
-    ensures { IfOk result (λ r. slot_list r.now ≡ reverse (slot_list slots.now)
-        ++ slot_list behind.now) }
+    requires slots { IsSound slots.now }
+    requires behind { IsSound behind.now }
+    ensures { IfOk result (λ r. AreSlots (reverse (slot_list slots.now) ++ slot_list behind.now)
+        r.now) }
 {
     match slots {
         Slots::End => Ok(behind),
