@@ -1,20 +1,18 @@
 -- The slots of a signature, and its chain of binders.
-use Rattle.std.proofs.Common.{◌≡◌, ◌∙◌, refl, ap, sym, subst, ℕ, zero, suc, ◌+◌, ◌-◌, ◌<◌, ◌≤◌, arith, Bool, true, false, List, [], ◌∷◌, ◌++◌, map, reverse, replicate, take, drop, length, append_assoc, sum_by, Option, Some, None, if◌then◌else◌, nat_eq}
+use Rattle.std.proofs.Common.{◌≡◌, ◌∙◌, refl, ap, sym, ℕ, zero, suc, ◌+◌, ◌-◌, ◌<◌, arith, false, List, [], ◌∷◌, ◌++◌, map, reverse, replicate, take, length, append_assoc, sum_by, Option, Some, None}
 use mathlib.Core.Path.{ap₂}
 use Rattle.std.specs.Prelude.{min}
 use Rattle.std.proofs.lemmas.List.{reverse-append, append-nil}
 use Rattle.qtt_base.specs.declared.place.Span.{Span}
-use Rattle.qtt_syntax.specs.declared.expr.Mark.TheVariants.{Written, Braced, Inserted}
-use Rattle.qtt_syntax.specs.Tree.{Tree, Argument, Arguments}
+use Rattle.qtt_syntax.specs.declared.expr.Mark.TheVariants.{Braced, Inserted}
+use Rattle.qtt_syntax.specs.Tree.{Tree}
 use Rattle.qtt_syntax.specs.Tree.Tree.{name, number, text, universe, hole, the, apply, pi, lambda, letting, doing}
 use Rattle.qtt_syntax.specs.Tree.Argument.{argument}
-use Rattle.qtt_syntax.specs.Tree.Arguments.{no_argument, argument_and}
-use Rattle.qtt_implicit.specs.Moving.{placed, nodes, weighed}
+use Rattle.qtt_implicit.specs.Moving.{placed, nodes}
 use Rattle.qtt_implicit.specs.Matching.{Slots}
-use Rattle.qtt_implicit.specs.Walk.{behind_binders, binder_names, slots_of, slot_argument, inserted_nodes}
-use Rattle.qtt_implicit.specs.Patterns.{argument_trees}
-use Rattle.qtt_implicit.specs.Slots.{form, weight, weight_of, one_node}
-use Rattle.qtt_implicit.specs.Solving.{first_unsolved, solved}
+use Rattle.qtt_implicit.specs.Walk.{behind_binders, binder_names, slots_of, inserted_nodes}
+use Rattle.qtt_implicit.specs.Slots.{form, weight, weight_of}
+use Rattle.qtt_implicit.specs.Solving.{solved}
 use Rattle.qtt_implicit.specs.declared.filling.weights.Weight.{Weight}
 use Rattle.qtt_implicit.proofs.Matched.{form_function}
 use Rattle.qtt_implicit.proofs.Moves.{nodes_placed}

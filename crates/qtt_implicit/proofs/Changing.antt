@@ -14,7 +14,7 @@ use Rattle.qtt_syntax.specs.Tree.Binder.{plain, typed_binder}
 use Rattle.qtt_syntax.specs.Tree.Binders.{no_binder, binder_and}
 use Rattle.qtt_syntax.specs.Tree.Statement.{bind, local, run}
 use Rattle.qtt_syntax.specs.Tree.Statements.{no_statement, statement_and}
-use Rattle.qtt_implicit.specs.Moving.{Change, kept, count, bound, changed, changed_name, changed_annotation, changed_argument, changed_arguments, changed_binder, changed_binders, changed_statement, changed_statements, weighed, weighed_annotation, weighed_argument, weighed_arguments, weighed_binder, weighed_binders, weighed_statement, weighed_statements}
+use Rattle.qtt_implicit.specs.Moving.{Change, count, bound, changed, changed_name, changed_annotation, changed_argument, changed_arguments, changed_binder, changed_binders, changed_statement, changed_statements, weighed, weighed_annotation, weighed_argument, weighed_arguments, weighed_binder, weighed_binders, weighed_statement, weighed_statements}
 use Rattle.qtt_implicit.specs.Forgetting.{renumbering}
 use Rattle.qtt_implicit.proofs.RenumberedTrees.{unmoved}
 
@@ -106,8 +106,8 @@ module _ (f g h : Change) (i j k : ℕ) (c : Composed f g h i j k) where
     composed a b e w (lambda bs t s) =
         let p = composed_binders a b e w bs in
         let q =
-            ap (λ (x : ℕ). changed f (a + x) (changed g (b + count bs) t)) (count_changed g b bs)
-            ∙ composed (a + count bs) (b + count bs) (e + count bs) (more_in (count bs) i j k a b e w) t in
+        ap (λ (x : ℕ). changed f (a + x) (changed g (b + count bs) t)) (count_changed g b bs)
+        ∙ composed (a + count bs) (b + count bs) (e + count bs) (more_in (count bs) i j k a b e w) t in
         let r = c.spans s in
         cc
     composed a b e w (letting m n t v u s) =

@@ -1,5 +1,5 @@
 -- What copies of trees are.
-use Rattle.std.proofs.Common.{◌≡◌, ◌∙◌, refl, ap, sym, subst, ℕ, zero, suc, ◌+◌, ◌-◌, ◌<◌, ◌≤◌, arith, Bool, true, false, List, [], ◌∷◌, Option, Some, None, if◌then◌else◌, nat_lt}
+use Rattle.std.proofs.Common.{◌≡◌, ◌∙◌, refl, ap, sym, subst, ℕ, ◌+◌, ◌-◌, ◌<◌, ◌≤◌, arith, List, Option, None}
 use Rattle.qtt_base.specs.declared.place.Span.{Span}
 use Rattle.qtt_syntax.specs.declared.expr.Mark.{Mark}
 use Rattle.qtt_syntax.specs.declared.expr.Named.{Named}
@@ -7,24 +7,23 @@ use Rattle.qtt_syntax.specs.declared.expr.Target.{Target}
 use Rattle.qtt_syntax.specs.declared.expr.Target.TheVariants as target
 use Rattle.qtt_syntax.specs.declared.expr.Local.{Local}
 use Rattle.qtt_usage.specs.declared.mult.Mult.{Mult}
-use Rattle.qtt_syntax.specs.Tree.{Tree, Annotation, Argument, Arguments, Binder, Binders, Statement, Statements}
-use Rattle.qtt_syntax.specs.Tree.Tree.{name, the, apply, pi, lambda, letting, doing}
+use Rattle.qtt_syntax.specs.Tree.{Tree, Annotation, Arguments, Binders, Statements}
+use Rattle.qtt_syntax.specs.Tree.Tree.{name, the, apply, pi, lambda, letting}
 use Rattle.qtt_syntax.specs.Tree.Argument.{argument}
-use Rattle.qtt_syntax.specs.Tree.Arguments.{no_argument, argument_and}
+use Rattle.qtt_syntax.specs.Tree.Arguments.{argument_and}
 use Rattle.qtt_syntax.specs.Tree.Binder.{plain, typed_binder}
-use Rattle.qtt_syntax.specs.Tree.Binders.{no_binder, binder_and}
+use Rattle.qtt_syntax.specs.Tree.Binders.{binder_and}
 use Rattle.qtt_syntax.specs.Tree.Statement.{bind, local, run}
-use Rattle.qtt_syntax.specs.Tree.Statements.{no_statement, statement_and}
-use Rattle.qtt_implicit.specs.Moving.{Change, kept, at_binder, shifted, replaced_name, changed, changed_binders, changed_statements, count, bound, unknown}
+use Rattle.qtt_syntax.specs.Tree.Statements.{statement_and}
+use Rattle.qtt_implicit.specs.Moving.{Change, at_binder, shifted, replaced_name, changed, changed_binders, count}
 use Rattle.qtt_implicit.specs.Matching.{Slots}
 use Rattle.qtt_implicit.specs.Forgetting.{renumbering}
-use Rattle.qtt_implicit.specs.Slots.{moving, replacing, beyond, stands, seen}
+use Rattle.qtt_implicit.specs.Slots.{moving, replacing, stands, seen}
 use Rattle.qtt_implicit.specs.Copies.{placing, span_at}
 use Rattle.qtt_implicit.specs.declared.filling.slots.Rest.{Rest}
-use Rattle.qtt_implicit.specs.declared.filling.slots.Rest.TheVariants as rest
 use Rattle.qtt_implicit.proofs.RenumberedTrees.{named, unmoved, shifted_binder}
-use Rattle.qtt_implicit.proofs.Changing.{Depths, Composed, composed, count_changed, bound_changed}
-use Rattle.qtt_implicit.proofs.Moves.{same_tree, below, not_below, free_stands, bound_stays, shifted_twice, shifted_under, seen_moved}
+use Rattle.qtt_implicit.proofs.Changing.{composed, count_changed}
+use Rattle.qtt_implicit.proofs.Moves.{same_tree, below, free_stands, bound_stays, shifted_under, seen_moved}
 
 -- ---- places
 

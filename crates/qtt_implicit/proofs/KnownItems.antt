@@ -1,5 +1,5 @@
 -- Signatures of imports.
-use Rattle.std.proofs.Common.{◌≡◌, ◌∙◌, refl, ap, sym, List, ◌∷◌, true, slice_get}
+use Rattle.std.proofs.Common.{◌≡◌, refl, List, ◌∷◌, true, slice_get}
 use Rattle.std.specs.Prelude.{eqb}
 use Rattle.qtt_base.specs.declared.place.GlobalId.{GlobalId}
 use Rattle.qtt_names.specs.Exports.{Exports}

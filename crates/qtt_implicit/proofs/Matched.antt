@@ -1,18 +1,20 @@
 -- Forms of text types, and what is matched with them.
-use Rattle.std.proofs.Common.{◌≡◌, ◌∙◌, refl, ap, sym, subst, ℕ, zero, suc, ◌+◌, ◌-◌, ◌<◌, ◌≤◌, arith, Bool, true, false, List, [], ◌∷◌, ◌++◌, map, filter, reverse, replicate, take, drop, length, append_assoc, Option, Some, None, if◌then◌else◌, nat_eq}
-use Rattle.std.proofs.lemmas.List.{reverse-append}
+use Rattle.std.proofs.Common.{◌≡◌, ◌∙◌, refl, ap, sym, ℕ, suc, Bool, true, false, List, [], ◌∷◌, map, Option, None, if◌then◌else◌, nat_eq}
 use Rattle.qtt_base.specs.declared.place.GlobalId.{GlobalId}
 use Rattle.qtt_base.specs.declared.place.Span.{Span}
-use Rattle.qtt_syntax.specs.declared.expr.Named.{Named}
-use Rattle.qtt_syntax.specs.Tree.{Tree, Argument, Arguments, arguments}
+use Rattle.qtt_syntax.specs.declared.expr.Mark.{Mark}
+use Rattle.qtt_syntax.specs.declared.expr.Target.{Target}
+use Rattle.qtt_syntax.specs.declared.expr.Target.TheVariants as target
+use Rattle.qtt_syntax.specs.Tree.{Tree, Argument, Arguments}
 use Rattle.qtt_syntax.specs.Tree.Tree.{name, number, text, universe, hole, the, apply, pi, lambda, letting, doing}
+use Rattle.qtt_syntax.specs.Tree.Argument.{argument}
 use Rattle.qtt_syntax.specs.Tree.Arguments.{no_argument, argument_and}
-use Rattle.qtt_implicit.specs.Moving.{Change, changed, changed_arguments, unknown}
+use Rattle.qtt_implicit.specs.Moving.{Change, changed_arguments, unknown}
 use Rattle.qtt_implicit.specs.Matching.{Slots, argument_count, matched, matched_arguments, codomain, codomains, instance}
 use Rattle.qtt_implicit.specs.Walk.{Given, given_to, given_tree, is_written, is_braced, is_io, not_in_braces, in_braces, result_type}
 use Rattle.qtt_implicit.specs.Slots.{Form, form, global_of}
 use Rattle.qtt_implicit.specs.Slots.{moving, replacing, slot_list, stands}
-use Rattle.qtt_implicit.specs.TextTypes.{is_applied, global_name, arguments_in}
+use Rattle.qtt_implicit.specs.TextTypes.{is_applied, global_name, arguments_in, given_by}
 use Rattle.qtt_implicit.specs.declared.filling.slots.Shared.{Shared}
 use Rattle.qtt_implicit.proofs.Back.{filter_yes, filter_no}
 
@@ -166,3 +168,23 @@ braced_given g gs e = ap (map given_tree) (filter_yes (λ (x : Given). is_braced
 pub unbraced_given : (g : Given) (gs : List Given) → is_braced g.mark ≡ false →
     in_braces (g ∷ gs) ≡ in_braces gs
 unbraced_given g gs e = ap (map given_tree) (filter_no (λ (x : Given). is_braced x.mark) g gs e)
+
+-- ---- what actions give
+by_target : (g : Target) (t : Tree) → (if is_io g then t else unknown) ≡ given_by (global_of g) t
+by_target (target.Local i) t = refl
+by_target (target.Global id) t = refl
+by_target target.Unknown t = refl
+
+pub one_given : (f : Tree) (k : Mark) (t : Tree) (s : Span) →
+    result_type (apply f (argument_and (argument k t) no_argument) s) ≡ given_by (global_name f) t
+one_given (name n) k t s = by_target n.target t
+one_given (number z r) k t s = refl
+one_given (text v r) k t s = refl
+one_given (universe l ls r) k t s = refl
+one_given (hole n r) k t s = refl
+one_given (the u v r) k t s = refl
+one_given (apply f xs r) k t s = refl
+one_given (pi l m n a c r) k t s = refl
+one_given (lambda bs c r) k t s = refl
+one_given (letting m n u v c r) k t s = refl
+one_given (doing ss r) k t s = refl

@@ -8,14 +8,14 @@ use Rattle.qtt_syntax.specs.declared.expr.Target.{Target}
 use Rattle.qtt_syntax.specs.declared.expr.Target.TheVariants as target
 use Rattle.qtt_syntax.specs.Tree.{Tree}
 use Rattle.qtt_syntax.specs.Tree.Tree.{name, number, text, universe, hole, the, apply, pi, lambda, letting, doing}
-use Rattle.qtt_implicit.specs.Moving.{Change, kept, at_binder, shifted_name, shifted, replaced_name, replaced, changed, placed, unknown, unknown_weight, stands_for_nothing, weighed, nodes, is_known}
-use Rattle.qtt_implicit.specs.Matching.{Slots, newest, codomain, instance, slot_tree}
+use Rattle.qtt_implicit.specs.Moving.{Change, kept, at_binder, shifted_name, shifted, replaced_name, replaced, changed, placed, unknown_weight, stands_for_nothing, weighed, nodes}
+use Rattle.qtt_implicit.specs.Matching.{Slots, newest, instance, slot_tree}
 use Rattle.qtt_implicit.specs.Slots.{moving, replacing, beyond, slot_value, stands, seen, moved_rest, moved_slot, moved_slots, weight, one_node, weight_of, global_of, Form, form}
 use Rattle.qtt_implicit.specs.Forgetting.{renumbering}
 use Rattle.qtt_implicit.specs.declared.filling.slots.Rest.{Rest}
 use Rattle.qtt_implicit.specs.declared.filling.slots.Rest.TheVariants as rest
 use Rattle.qtt_implicit.proofs.RenumberedTrees.{named, unmoved, shifted_binder}
-use Rattle.qtt_implicit.proofs.Changing.{Depths, Composed, composed, same_depths, alike, weighs_same}
+use Rattle.qtt_implicit.proofs.Changing.{Composed, composed, same_depths, alike, weighs_same}
 
 -- ---- tests of numbers
 pub below : (i d : ℕ) → i < d → nat_lt i d ≡ true
@@ -262,7 +262,7 @@ newest_moves x d = record {
     by e n =
         let same : e ≡ e + 0 = omega arith in
         let P : ℕ → Type 0 = λ y. changed (replacing (newest x)) (e + d) ((moving (suc d)).name y n) ≡
-            (moving d).name y n in
+        (moving d).name y n in
         subst P same (newest_moved x d e n.path n.target n.span)
 
 newest_behind : (x : Tree) (d : ℕ) (t : Tree) → changed (replacing (newest x)) d (shifted (suc d) t) ≡ shifted d t
@@ -316,7 +316,7 @@ newest_standing x r σ = record {
         let same : d ≡ d + 0 = omega arith in
         let next : suc d ≡ d + 1 = omega arith in
         let P : ℕ → ℕ → Type 0 = λ y z. changed (replacing (newest x)) y ((replacing (stands r σ)).name z n) ≡
-            (replacing (stands r (Some x ∷ σ))).name y n in
+        (replacing (stands r (Some x ∷ σ))).name y n in
         subst (λ (y : ℕ). P y (d + 1)) same
         (subst (λ (z : ℕ). P d z) next (newest_stands x r σ d n.path n.target n.span))
 

@@ -1,16 +1,15 @@
 -- What an application of a name answers, from whether its slots are filled.
-use Rattle.std.proofs.Common.{◌≡◌, ◌∙◌, refl, ap, sym, subst, ℕ, zero, suc, ◌+◌, ◌-◌, ◌<◌, ◌≤◌, arith, Bool, true, false, List, [], ◌∷◌, ◌++◌, map, reverse, replicate, take, drop, length, append_assoc, sum_by, Option, Some, None, Result, Ok, Err, if◌then◌else◌, nat_eq, nat_le}
-use Rattle.std.specs.Prelude.{min}
+use Rattle.std.proofs.Common.{◌≡◌, refl, ap, sym, ℕ, ◌+◌, ◌-◌, ◌<◌, ◌≤◌, arith, Bool, true, false, List, [], ◌∷◌, ◌++◌, map, length, sum_by, Option, Some, None, Result, Ok, Err, nat_le}
 use Rattle.qtt_base.specs.declared.place.Span.{Span}
 use Rattle.qtt_syntax.specs.declared.expr.Named.{Named}
 use Rattle.qtt_syntax.specs.Tree.{Tree, Argument, Arguments, arguments}
-use Rattle.qtt_syntax.specs.Tree.Tree.{name, number, text, universe, hole, the, apply, pi, lambda, letting, doing}
+use Rattle.qtt_syntax.specs.Tree.Tree.{name, apply}
 use Rattle.qtt_syntax.specs.Tree.Arguments.{no_argument, argument_and}
 use Rattle.qtt_names.specs.Exports.{Sig}
 use Rattle.qtt_implicit.specs.Matching.{Slots}
-use Rattle.qtt_implicit.specs.Filling.{Stop, Filling, done, stop, put, goes_on, ◌>>=◌}
-use Rattle.qtt_implicit.specs.Walk.{Walked, walked, Given, application, behind_binders, binder_names, slots_of, open_slots, given_to, brace_slots, slot_argument, slot_arguments, few_braces, inserted_nodes, at_slots, applied, applied_local, plainly_applied, in_braces, not_in_braces, given_argument}
-use Rattle.qtt_implicit.specs.Meeting.{IsStop, Meets}
+use Rattle.qtt_implicit.specs.Filling.{Stop, Filling, done, put, goes_on, ◌>>=◌}
+use Rattle.qtt_implicit.specs.Walk.{Walked, walked, Given, application, behind_binders, binder_names, open_slots, given_to, brace_slots, slot_argument, slot_arguments, few_braces, inserted_nodes, at_slots, applied, applied_local, plainly_applied, in_braces, not_in_braces, given_argument}
+use Rattle.qtt_implicit.specs.Meeting.{IsStop}
 use Rattle.qtt_implicit.specs.Solving.{first_unsolved, solved, in_front}
 use Rattle.qtt_implicit.specs.declared.filling.stop.Stop as stop_code
 use Rattle.qtt_implicit.specs.declared.filling.stop.Stop.TheVariants as code
@@ -63,8 +62,8 @@ pub at_slots_unsolved : (S : Sig) (n : Named) (xs : List Given) (s : Span) (r : 
 unfolding ◌>>=◌
 at_slots_unsolved S n xs s r x left e =
     ap (λ (o : Result (List Argument × ℕ) Stop). goes_on o (λ filled.
-        put (sum_by inserted_nodes filled) >>= λ added.
-        done (walked (application (name n) (filled ++ map given_argument (not_in_braces xs)) s) r.1)))
+    put (sum_by inserted_nodes filled) >>= λ added.
+    done (walked (application (name n) (filled ++ map given_argument (not_in_braces xs)) s) r.1)))
     (stops n.span (length (in_braces xs)) (brace_names S) (brace_slots S r.0) x left e)
 
 pub at_slots_put : (S : Sig) (n : Named) (xs : List Given) (s : Span) (r : Slots × Tree) (left : ℕ) →
@@ -74,8 +73,8 @@ pub at_slots_put : (S : Sig) (n : Named) (xs : List Given) (s : Span) (r : Slots
 unfolding ◌>>=◌
 at_slots_put S n xs s r left e =
     ap (λ (o : Result (List Argument × ℕ) Stop). goes_on o (λ filled.
-        put (sum_by inserted_nodes filled) >>= λ added.
-        done (walked (application (name n) (filled ++ map given_argument (not_in_braces xs)) s) r.1)))
+    put (sum_by inserted_nodes filled) >>= λ added.
+    done (walked (application (name n) (filled ++ map given_argument (not_in_braces xs)) s) r.1)))
     (solves n.span (length (in_braces xs)) (brace_names S) (brace_slots S r.0) left e)
 
 -- ---- braces

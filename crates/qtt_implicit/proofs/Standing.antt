@@ -1,16 +1,15 @@
 -- What free local names stand for, slot by slot.
-use Rattle.std.proofs.Common.{Result, Ok, Err, IfOk, ◌≡◌, ◌∙◌, refl, ap, sym, subst, ℕ, zero, suc, ◌+◌, ◌-◌, ◌<◌, ◌≤◌, arith, Bool, true, false, List, [], ◌∷◌, ◌++◌, reverse, append_assoc, Option, Some, None, if◌then◌else◌, nat_eq}
+use Rattle.std.proofs.Common.{Result, Ok, Err, IfOk, ◌≡◌, ◌∙◌, refl, ap, sym, subst, ℕ, zero, suc, ◌+◌, ◌-◌, arith, Bool, true, false, [], ◌∷◌, ◌++◌, reverse, append_assoc, Option, Some, None, if◌then◌else◌, nat_eq}
 use Rattle.std.proofs.lemmas.List.{reverse-append}
-use Rattle.qtt_base.specs.declared.place.Span.{Span}
 use Rattle.qtt_syntax.specs.declared.expr.Named.{Named}
 use Rattle.qtt_syntax.specs.declared.expr.Target.{Target}
 use Rattle.qtt_syntax.specs.declared.expr.Target.TheVariants as target
 use Rattle.qtt_syntax.specs.Tree.{Tree}
 use Rattle.qtt_syntax.specs.Tree.Tree.{name, number, text, universe, hole, the, apply, pi, lambda, letting, doing}
-use Rattle.qtt_implicit.specs.Moving.{shifted, replaced_name, unknown, unknown_weight, weighed, is_known}
+use Rattle.qtt_implicit.specs.Moving.{shifted, replaced_name, unknown_weight, weighed, is_known}
 use Rattle.qtt_implicit.specs.Matching.{Slots, fill_slot, take_up}
 use Rattle.qtt_implicit.specs.Nodes.{node_tree}
-use Rattle.qtt_implicit.specs.Slots.{moving, replacing, beyond, slot_value, stands, seen, slot_list, shared_tree, weight, weight_of, one_node, IsSound, AreSlots, Resolves, Form, form, global_of, local_target, local_of, moved_slot, moved_slots}
+use Rattle.qtt_implicit.specs.Slots.{beyond, stands, seen, slot_list, shared_tree, weight, weight_of, one_node, IsSound, Resolves, Form, form, global_of, local_target, local_of, moved_slots}
 use Rattle.qtt_implicit.specs.declared.filling.slots.Rest.{Rest}
 use Rattle.qtt_implicit.specs.declared.filling.slots.Rest.TheVariants as rest
 use Rattle.qtt_implicit.specs.declared.filling.slots.Shared.{Shared}

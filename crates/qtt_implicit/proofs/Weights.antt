@@ -1,14 +1,14 @@
 -- Weights of trees, by their parts.
-use Rattle.std.proofs.Common.{◌≡◌, ◌∙◌, refl, ap, sym, ℕ, zero, suc, ◌+◌, ◌-◌, ◌<◌, ◌≤◌, arith, Bool, true, false, List, [], ◌∷◌, Option, Some, None, nat_eq, ◌&&◌}
+use Rattle.std.proofs.Common.{◌≡◌, ◌∙◌, refl, ap, ℕ, zero, suc, ◌+◌, ◌-◌, ◌<◌, ◌≤◌, arith, Bool, true, false, ◌∷◌, Option, nat_eq, ◌&&◌}
 use mathlib.Core.Path.{ap₂}
 use Rattle.std.specs.Prelude.{min}
 use Rattle.qtt_syntax.specs.declared.expr.Named.{Named}
 use Rattle.qtt_syntax.specs.declared.expr.Target.{Target}
 use Rattle.qtt_syntax.specs.declared.expr.Target.TheVariants as target
 use Rattle.qtt_syntax.specs.Tree.{Tree}
-use Rattle.qtt_implicit.specs.Moving.{replaced_name, unknown_weight, stands_for_nothing}
+use Rattle.qtt_implicit.specs.Moving.{replaced_name, stands_for_nothing}
 use Rattle.qtt_implicit.specs.Matching.{Slots}
-use Rattle.qtt_implicit.specs.Slots.{weight, both, weight_of, one_node, stands, beyond, slot_value}
+use Rattle.qtt_implicit.specs.Slots.{weight, both, weight_of, stands, beyond, slot_value}
 use Rattle.qtt_implicit.specs.declared.filling.slots.Rest.{Rest}
 use Rattle.qtt_implicit.specs.declared.filling.slots.Rest.TheVariants as rest
 use Rattle.qtt_implicit.specs.declared.filling.weights.Weight.{Weight}

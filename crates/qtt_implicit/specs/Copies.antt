@@ -1,11 +1,10 @@
 -- Copies of trees, in which what fills slots is put in.
-use Rattle.std.specs.Prelude.{◌≡◌, ℕ, ◌+◌, ◌<◌, Option, Some, None}
+use Rattle.std.specs.Prelude.{ℕ, ◌+◌, ◌<◌, Option, Some, None}
 use Rattle.qtt_base.specs.declared.place.Span.{Span}
 use Rattle.qtt_syntax.specs.declared.expr.Named.{Named}
 use Rattle.qtt_syntax.specs.Tree.{Tree, Annotation, Arguments, Binders, Statements}
 use Rattle.qtt_syntax.specs.Tree.Tree.{name}
 use Rattle.qtt_implicit.specs.Moving.{Change, kept, changed, changed_annotation, changed_arguments, changed_binders, changed_statements, unknown}
-use Rattle.qtt_implicit.specs.Nodes.{node_tree}
 use Rattle.qtt_implicit.specs.Slots.{moving, replacing, beyond, stands, shared_tree, slot_list, slots_size}
 use Rattle.qtt_implicit.specs.declared.filling.trees.Node.{size-Node}
 use Rattle.qtt_implicit.specs.declared.filling.slots.Rest.{Rest}

@@ -4,7 +4,7 @@ use Rattle.qtt_base.specs.declared.place.Span.{Span}
 use Rattle.qtt_syntax.specs.declared.expr.Named.{Named}
 use Rattle.qtt_syntax.specs.declared.expr.Local.{Local}
 use Rattle.qtt_syntax.specs.declared.expr.Target.TheVariants as target
-use Rattle.qtt_syntax.specs.Tree.{Tree, Annotation, Argument, Arguments, Binder, Binders, Statement, Statements}
+use Rattle.qtt_syntax.specs.Tree.{Tree, Annotation, Arguments, Binders, Statements}
 use Rattle.qtt_syntax.specs.Tree.Tree.{name, number, text, universe, hole, the, apply, pi, lambda, letting, doing}
 use Rattle.qtt_syntax.specs.Tree.Annotation.{untyped, typed}
 use Rattle.qtt_syntax.specs.Tree.Argument.{argument}

@@ -1,13 +1,12 @@
 -- Text types in code: trees whose free local names stand for what fills slots.
-use Rattle.std.specs.Prelude.{◌≡◌, ℕ, zero, suc, ◌+◌, nat_eq, nat_lt, min, if◌then◌else◌, Bool, ◌&&◌, List, [], ◌∷◌, Option, Some, None, MatchOption}
+use Rattle.std.specs.Prelude.{◌≡◌, ℕ, zero, suc, ◌+◌, nat_eq, min, ◌&&◌, [], ◌∷◌, Option, Some, None}
 use Rattle.qtt_base.specs.declared.place.GlobalId.{GlobalId}
-use Rattle.qtt_base.specs.declared.place.Span.{Span}
 use Rattle.qtt_syntax.specs.declared.expr.Named.{Named}
 use Rattle.qtt_syntax.specs.declared.expr.Target.{Target}
 use Rattle.qtt_syntax.specs.declared.expr.Target.TheVariants as target
 use Rattle.qtt_syntax.specs.Tree.{Tree}
 use Rattle.qtt_syntax.specs.Tree.Tree.{name, number, text, universe, hole, the, apply, pi, lambda, letting, doing}
-use Rattle.qtt_implicit.specs.Moving.{Change, kept, at_binder, shifted_name, shifted, replaced_name, replaced, changed, unknown, unknown_weight, weighed, nodes}
+use Rattle.qtt_implicit.specs.Moving.{Change, kept, at_binder, shifted_name, shifted, replaced_name, replaced, unknown, unknown_weight, weighed, nodes}
 use Rattle.qtt_implicit.specs.Matching.{Slots}
 use Rattle.qtt_implicit.specs.Nodes.{node_tree}
 use Rattle.qtt_implicit.specs.declared.filling.trees.Node.{size-Node}

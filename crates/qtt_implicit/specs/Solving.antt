@@ -2,7 +2,7 @@
 use Rattle.std.specs.Prelude.{◌≡◌, ℕ, ◌-◌, min, List, [], ◌∷◌, Option, Some, None, sum_by}
 use Rattle.qtt_base.specs.declared.place.Span.{Span}
 use Rattle.qtt_syntax.specs.Tree.{Tree, Argument, Arguments}
-use Rattle.qtt_syntax.specs.Tree.Arguments.{no_argument, argument_and}
+use Rattle.qtt_syntax.specs.Tree.Arguments.{argument_and}
 use Rattle.qtt_names.specs.Exports.{Sig}
 use Rattle.qtt_implicit.specs.Walk.{behind_binders, binder_names, slot_argument, inserted_nodes}
 

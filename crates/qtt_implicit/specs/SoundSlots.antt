@@ -1,5 +1,5 @@
 -- That each slot has the weight of what fills it is a fact of the slots alone.
-use Rattle.std.specs.Prelude.{◌≡◌, ℕ, Bool, refl}
+use Rattle.std.specs.Prelude.{ℕ, Bool, refl}
 use Rattle.std.specs.Coded.{Coded, Coded-set, code_by, coded×, coded_ℕ, coded_bool, ×_prop, Unit-prop}
 use Rattle.qtt_implicit.specs.Nodes.{node_tree}
 use Rattle.qtt_implicit.specs.Slots.{IsSound, seen, slot_list, weight_of}

@@ -1,14 +1,12 @@
 -- What text types in code stand for.
-use Rattle.std.specs.Prelude.{◌≡◌, ℕ, ◌+◌, Bool, true, false, if◌then◌else◌, List, [], ◌∷◌, ◌++◌, map, replicate, Option, Some, None}
+use Rattle.std.specs.Prelude.{◌≡◌, ◌+◌, Bool, true, false, if◌then◌else◌, List, [], ◌∷◌, ◌++◌, map, replicate, Option, Some, None}
 use Rattle.qtt_base.specs.declared.place.GlobalId.{GlobalId}
-use Rattle.qtt_base.specs.declared.place.Span.{Span}
-use Rattle.qtt_syntax.specs.declared.expr.Named.{Named}
-use Rattle.qtt_syntax.specs.Tree.{Tree, Argument, Arguments}
+use Rattle.qtt_syntax.specs.declared.expr.Target.TheVariants as target
+use Rattle.qtt_syntax.specs.Tree.{Tree, Arguments}
 use Rattle.qtt_syntax.specs.Tree.Tree.{name, number, text, universe, hole, the, apply, pi, lambda, letting, doing}
-use Rattle.qtt_syntax.specs.Tree.Arguments.{no_argument, argument_and}
 use Rattle.qtt_implicit.specs.Moving.{changed_arguments, shifted, unknown}
 use Rattle.qtt_implicit.specs.Matching.{Slots}
-use Rattle.qtt_implicit.specs.Walk.{Given, Types, Walked}
+use Rattle.qtt_implicit.specs.Walk.{Given, Types, Walked, is_io}
 use Rattle.qtt_implicit.specs.Nodes.{node_tree, argument_row}
 use Rattle.qtt_implicit.specs.Slots.{moving, replacing, seen, shared_tree, slot_list, stands, global_of}
 use Rattle.qtt_implicit.specs.declared.filling.slots.Shared.{Shared}
@@ -72,6 +70,11 @@ application_tree a =
 abbrev pub Applies : Tree → Option Application → Type 0
 Applies T None = is_applied T ≡ false
 Applies T (Some a) = T ≡ application_tree a
+
+-- what an action gives whose type has this name and one argument
+abbrev pub given_by : Option GlobalId → Tree → Tree
+given_by None t = unknown
+given_by (Some id) t = if is_io (target.Global id) then t else unknown
 
 -- ---- arguments as they were walked
 abbrev pub given_of : given_code.Given → Given

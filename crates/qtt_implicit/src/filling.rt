@@ -14,6 +14,7 @@ pub(crate) mod locals;
 pub(crate) mod lookup;
 pub(crate) mod matching;
 pub(crate) mod parts;
+pub(crate) mod results;
 pub(crate) mod signature;
 pub(crate) mod slots;
 pub(crate) mod standing;

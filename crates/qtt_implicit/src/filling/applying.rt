@@ -1,11 +1,11 @@
 //! Applications of names, in which slots are filled.
 
-ghost use Rattle.std.specs.Prelude.{◌≡◌, ◌++◌, ◌+◌, ℕ, Some, None, List, drop, length, map, min, replicate, reverse, take, IfOk, IsTrue, MatchResult};
+ghost use Rattle.std.specs.Prelude.{◌≡◌, ◌++◌, ◌+◌, Some, None, List, drop, length, map, min, replicate, reverse, take, IfOk, IsTrue, MatchResult};
 ghost use Rattle.qtt_syntax.specs.Tree.{Argument, arguments as arguments_of};
 ghost use Rattle.qtt_syntax.specs.Tree.Arguments.{argument_and};
 ghost use Rattle.qtt_implicit.specs.Copies.{placing};
 ghost use Rattle.qtt_implicit.specs.Moving.{changed};
-ghost use Rattle.qtt_implicit.specs.Nodes.{argument_row, node_tree, used_name};
+ghost use Rattle.qtt_implicit.specs.Nodes.{argument_row, node_tree};
 ghost use Rattle.qtt_implicit.specs.Slots.{IsSound, shared_tree, slot_list};
 ghost use Rattle.qtt_implicit.specs.Solving.{IsInserted, first_unsolved, in_front, solved};
 ghost use Rattle.qtt_implicit.specs.TextTypes.{given_list, open_list};
@@ -111,9 +111,9 @@ pub fn inserted<'a>(
         (take braces (slot_list slots.now))) }
     ensures solved { MatchResult result
         (λ _. first_unsolved (binder_names braces (node_tree chain.now))
-            (take braces (slot_list slots.now)) ≡ None)
+        (take braces (slot_list slots.now)) ≡ None)
         (λ x. first_unsolved (binder_names braces (node_tree chain.now))
-            (take braces (slot_list slots.now)) ≡ Some x.now) }
+        (take braces (slot_list slots.now)) ≡ Some x.now) }
 {
     match braces.checked_sub(1) {
         None => Ok(0),
@@ -300,7 +300,8 @@ pub fn application<'a>(
     arguments: &'a Arguments<'a>,
     span: Span,
 ) -> Result<&'a Node<'a>, MemoryError>
-    ensures { IfOk result (λ t. (xs : List Argument) → argument_row arguments.now ≡ arguments_of xs →
+    ensures { IfOk result (λ t. (xs : List Argument) →
+        argument_row arguments.now ≡ arguments_of xs →
         node_tree t.now ≡ application_of (node_tree function.now) xs span) }
 {
     match arguments {

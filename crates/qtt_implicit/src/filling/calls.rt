@@ -48,15 +48,11 @@ impl<'a> Signature<'a> {
     }
 
     /// The slots behind the arguments, and the text type.
-    fn judged(
-        self,
-        arena: &'a Bump,
-        call: Call<'a>,
-        found: u32,
-    ) -> Result<Judged<'a>, MemoryError>
+    fn judged(self, arena: &'a Bump, call: Call<'a>, found: u32) -> Result<Judged<'a>, MemoryError>
         requires { found ≡ length (in_braces (given_list call.givens.now)) }
         ensures { IfOk result (λ j. AreJudged j (slots_and_type
-            (slots_in_front (signature_of self.entry) (in_braces (given_list call.entry.givens.now)))
+            (slots_in_front (signature_of self.entry)
+            (in_braces (given_list call.entry.givens.now)))
             (tree_behind (self.entry.params + self.entry.braces) (node_tree self.entry.ty.now))
             (not_in_braces (given_list call.entry.givens.now)))) }
     {
@@ -66,11 +62,7 @@ impl<'a> Signature<'a> {
     }
 
     /// The slots behind the parameters, in the order of their binders.
-    fn brace_row(
-        self,
-        arena: &'a Bump,
-        slots: OpenSlots<'a>,
-    ) -> Result<OpenSlots<'a>, MemoryError>
+    fn brace_row(self, arena: &'a Bump, slots: OpenSlots<'a>) -> Result<OpenSlots<'a>, MemoryError>
         ensures { IfOk result (λ s. take self.entry.braces (open_list s) ≡ brace_slots
             (signature_of self.entry) (open_list slots.entry)) }
     {
@@ -102,7 +94,15 @@ impl<'a> Signature<'a> {
         let chain = behind_binders(self.ty, self.params);
         let place = call.name.span;
         let written = written_row(call.givens, arena)?;
-        let row = filled_row(chain, arena, self.braces, slots.slots, found, place, written)?;
+        let row = filled_row(
+            chain,
+            arena,
+            self.braces,
+            slots.slots,
+            found,
+            place,
+            written,
+        )?;
         let name = placed(arena, Node::Name(call.name))?;
         Ok(Walked {
             tree: application(name, arena, row, call.span)?,
@@ -164,11 +164,7 @@ impl<'a> Signature<'a> {
 
 impl<'a> Call<'a> {
     /// An application of what has no signature.
-    pub fn plainly(
-        self,
-        arena: &'a Bump,
-        ty: TextType<'a>,
-    ) -> Result<Walked<'a>, MemoryError>
+    pub fn plainly(self, arena: &'a Bump, ty: TextType<'a>) -> Result<Walked<'a>, MemoryError>
         ensures { IfOk result (λ w. walked_of w ≡ plain_tree (name (used_name self.entry.name))
             (type_tree ty.entry) (given_list self.entry.givens.now) self.entry.span) }
     {

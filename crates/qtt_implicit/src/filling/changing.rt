@@ -1,6 +1,6 @@
 //! Slots that are filled, moved and turned round.
 
-ghost use Rattle.std.specs.Prelude.{◌≡◌, ◌++◌, reverse, IfOk};
+ghost use Rattle.std.specs.Prelude.{◌++◌, reverse, IfOk};
 ghost use Rattle.qtt_implicit.specs.Matching.{fill_slot};
 ghost use Rattle.qtt_implicit.specs.Slots.{AreSlots, IsSound, moved_slots, shared_tree, slot_list};
 

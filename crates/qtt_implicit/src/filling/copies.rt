@@ -1,12 +1,12 @@
 //! Copies of trees.
 
-ghost use Rattle.std.specs.Prelude.{◌≡◌, ◌+◌, ℕ, suc, IfOk};
+ghost use Rattle.std.specs.Prelude.{◌≡◌, IfOk};
 ghost use Rattle.qtt_syntax.specs.declared.expr.Named.{Named};
 ghost use Rattle.qtt_syntax.specs.Tree.Tree.{name};
 ghost use Rattle.qtt_implicit.specs.Moving.{changed, shifted, unknown};
 ghost use Rattle.qtt_implicit.specs.Nodes.{annotation_tree, argument_row, binder_row, bound_name, node_tree, statement_row, used_name};
 ghost use Rattle.qtt_implicit.specs.Slots.{beyond as beyond_slots, moving, slot_list, stands};
-ghost use Rattle.qtt_implicit.specs.Copies.{IsWithin, copied, copied_annotation, copied_arguments, copied_binders, copied_statements, found_tree, placing, span_at, standing};
+ghost use Rattle.qtt_implicit.specs.Copies.{IsWithin, copied, copied_annotation, copied_arguments, copied_binders, copied_statements, found_tree, placing, span_at};
 ghost use Rattle.qtt_implicit.specs.declared.filling.slots.Rest as rest_code;
 
 use crate::filling::copying::{Copying, Found};
@@ -58,8 +58,10 @@ impl<'a> Copying<'a> {
     }
 
     fn bound(&self, source: Bound<'a>) -> Bound<'a>
-        ensures { bound_name result ≡ record { name = source.entry.name.now;
-            span = span_at self.now.place source.entry.span } }
+        ensures { bound_name result ≡ record {
+          name = source.entry.name.now;
+          span = span_at self.now.place source.entry.span;
+        } }
     {
         Bound {
             name: source.name,
@@ -69,8 +71,11 @@ impl<'a> Copying<'a> {
 
     /// A used name that stays, but for its number.
     fn kept_name(&self, source: Used<'a>, target: Target) -> Result<&'a Node<'a>, MemoryError>
-        ensures { IfOk result (λ t. node_tree t.now ≡ name (record { path = source.entry.path.now;
-            target = target; span = span_at self.now.place source.entry.span })) }
+        ensures { IfOk result (λ t. node_tree t.now ≡ name (record {
+          path = source.entry.path.now;
+          target = target;
+          span = span_at self.now.place source.entry.span;
+        })) }
     {
         placed(
             self.arena,
@@ -89,12 +94,7 @@ impl<'a> Copying<'a> {
     }
 
     /// A used name beyond the slots.
-    fn beyond(
-        &self,
-        source: Used<'a>,
-        index: u32,
-        depth: u32,
-    ) -> Result<&'a Node<'a>, MemoryError>
+    fn beyond(&self, source: Used<'a>, index: u32, depth: u32) -> Result<&'a Node<'a>, MemoryError>
         ensures { IfOk result (λ t. node_tree t.now ≡ changed (placing self.now.place) depth
             (changed (moving self.now.moved) depth (shifted depth
             (beyond_slots self.now.rest index (used_name source.entry))))) }
@@ -251,11 +251,7 @@ impl<'a> Copying<'a> {
     }
 
     #[cycle(copied)]
-    fn annotation(
-        &self,
-        source: Annotation<'a>,
-        depth: u32,
-    ) -> Result<Annotation<'a>, MemoryError>
+    fn annotation(&self, source: Annotation<'a>, depth: u32) -> Result<Annotation<'a>, MemoryError>
         ensures { IfOk result (λ t. annotation_tree t ≡ copied_annotation self.now depth
             (annotation_tree source.entry)) }
     {
@@ -296,11 +292,7 @@ impl<'a> Copying<'a> {
     }
 
     #[cycle(copied)]
-    fn binders(
-        &self,
-        source: &'a Binders<'a>,
-        depth: u32,
-    ) -> Result<&'a Binders<'a>, MemoryError>
+    fn binders(&self, source: &'a Binders<'a>, depth: u32) -> Result<&'a Binders<'a>, MemoryError>
         ensures { IfOk result (λ bs. binder_row bs.now ≡ copied_binders self.now depth
             (binder_row source.now)) }
     {

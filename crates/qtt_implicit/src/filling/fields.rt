@@ -115,11 +115,7 @@ impl<'a> Signature<'a> {
     }
 
     /// The fields of a constructor pattern on a column of this type.
-    pub fn fields_on(
-        self,
-        arena: &'a Bump,
-        ty: TextType<'a>,
-    ) -> Result<Columns<'a>, MemoryError>
+    pub fn fields_on(self, arena: &'a Bump, ty: TextType<'a>) -> Result<Columns<'a>, MemoryError>
         ensures { IfOk result (λ cs. columns_of cs ≡ columns_on (Some (signature_of self.entry))
             (type_tree ty.entry)) }
     {

@@ -88,7 +88,9 @@ pub fn given_to<'a>(
             if was_written(given.mark) {
                 match chain {
                     Node::Pi {
-                        domain, codomain, ..
+                        domain,
+                        codomain,
+                        ..
                     } => {
                         let slots = matched(domain, arena, given.ty, slots)?;
                         given_to(others, arena, codomain, slots.with(arena, given.tree)?)

@@ -1,6 +1,6 @@
 //! What a free local name stands for.
 
-ghost use Rattle.std.specs.Prelude.{◌≡◌, ℕ, IfOk};
+ghost use Rattle.std.specs.Prelude.{◌≡◌, IfOk};
 ghost use Rattle.qtt_syntax.specs.declared.expr.Named.{Named};
 ghost use Rattle.qtt_implicit.specs.Moving.{shifted};
 ghost use Rattle.qtt_implicit.specs.Nodes.{node_tree};

@@ -5,7 +5,7 @@ ghost use Rattle.qtt_syntax.specs.Tree.{Arguments};
 ghost use Rattle.qtt_implicit.specs.Moving.{shifted, unknown as unknown_tree};
 ghost use Rattle.qtt_implicit.specs.Matching.{codomain as codomain_of, instance as instance_of};
 ghost use Rattle.qtt_implicit.specs.Nodes.{node_tree};
-ghost use Rattle.qtt_implicit.specs.Slots.{Resolves, moved_rest, shared_tree};
+ghost use Rattle.qtt_implicit.specs.Slots.{Resolves, moved_rest};
 ghost use Rattle.qtt_implicit.specs.TextTypes.{Applies, arguments_in, global_name, open_list, tree_in, type_tree};
 
 use crate::filling::changing::moved;
@@ -180,11 +180,7 @@ impl<'a> OpenSlots<'a> {
     }
 
     /// One more slot, in which an expression stands.
-    pub fn with(
-        self,
-        arena: &'a Bump,
-        tree: &'a Node<'a>,
-    ) -> Result<OpenSlots<'a>, MemoryError>
+    pub fn with(self, arena: &'a Bump, tree: &'a Node<'a>) -> Result<OpenSlots<'a>, MemoryError>
         ensures { IfOk result (λ s. open_list s ≡ Some (node_tree tree.now)
             ∷ open_list self.entry) }
     {

@@ -1,6 +1,6 @@
 //! How much there is of a tree whose free local names stand for what fills slots.
 
-ghost use Rattle.std.specs.Prelude.{◌≡◌, ◌+◌, ℕ, IfOk};
+ghost use Rattle.std.specs.Prelude.{◌≡◌, ◌+◌, IfOk};
 ghost use Rattle.qtt_syntax.specs.declared.expr.Named.{Named};
 ghost use Rattle.qtt_implicit.specs.Moving.{count, weighed_annotation, weighed_arguments, weighed_binders, weighed_statements, changed, changed_annotation, changed_arguments, changed_binders, changed_statements};
 ghost use Rattle.qtt_implicit.specs.Nodes.{used_name, node_tree, annotation_tree, argument_row, binder_row, statement_row};
@@ -92,7 +92,9 @@ pub fn weigh(node: &Node, depth: u32, slots: &Slots, rest: Rest) -> Result<Weigh
             Ok(Weight::node().and(function.and(arguments)))
         }
         Node::Pi {
-            domain, codomain, ..
+            domain,
+            codomain,
+            ..
         } => {
             let domain = weigh(domain, depth, slots, rest)?;
             let codomain = weigh(codomain, inside(depth)?, slots, rest)?;
@@ -104,7 +106,10 @@ pub fn weigh(node: &Node, depth: u32, slots: &Slots, rest: Rest) -> Result<Weigh
             Ok(Weight::node().and(row.and(body)))
         }
         Node::Let {
-            ty, value, body, ..
+            ty,
+            value,
+            body,
+            ..
         } => {
             let ty = weigh_annotation(ty, depth, slots, rest)?;
             let value = weigh(value, depth, slots, rest)?;
@@ -203,7 +208,10 @@ fn weigh_statements(
             Ok(value.and(others))
         }
         Statements::Let {
-            ty, value, others, ..
+            ty,
+            value,
+            others,
+            ..
         } => {
             let ty = weigh_annotation(ty, depth, slots, rest)?;
             let value = weigh(value, depth, slots, rest)?;

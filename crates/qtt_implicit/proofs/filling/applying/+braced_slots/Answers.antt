@@ -1,5 +1,5 @@
 -- One expression in braces more.
-use Rattle.std.proofs.Common.{◌≡◌, ◌∙◌, ◌++◌, ap, sym, map, reverse, List}
+use Rattle.std.proofs.Common.{◌∙◌, ◌++◌, ap, sym, map, reverse, List}
 use Rattle.qtt_syntax.specs.Tree.{Tree}
 use Rattle.qtt_implicit.specs.Matching.{Slots}
 use Rattle.qtt_implicit.specs.Nodes.{node_tree}

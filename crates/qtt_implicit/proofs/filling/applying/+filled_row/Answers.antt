@@ -1,7 +1,6 @@
 -- One argument more.
 use Rattle.std.proofs.Common.{◌≡◌, ◌∙◌, ap, sym, ℕ, suc, arith, take}
 use mathlib.Core.Path.{ap₂}
-use Rattle.qtt_syntax.specs.Tree.{Arguments}
 use Rattle.qtt_syntax.specs.Tree.Arguments.{argument_and}
 use Rattle.qtt_implicit.specs.Nodes.{argument_row, node_tree}
 use Rattle.qtt_implicit.specs.Slots.{seen, slot_list}

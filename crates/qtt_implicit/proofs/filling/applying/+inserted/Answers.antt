@@ -1,5 +1,5 @@
 -- One slot more that is filled.
-use Rattle.std.proofs.Common.{◌≡◌, ◌∙◌, ap, sym, subst, ℕ, suc, ◌+◌, ◌-◌, ◌<◌, arith, take, sum_by}
+use Rattle.std.proofs.Common.{◌≡◌, ◌∙◌, sym, subst, ℕ, suc, ◌+◌, ◌-◌, ◌<◌, arith, take, sum_by}
 use mathlib.Core.Path.{ap₂}
 use Rattle.std.specs.Prelude.{min}
 use Rattle.qtt_implicit.specs.Nodes.{node_tree}
@@ -22,7 +22,7 @@ returns-then-written-eq0-clause-ok t c = λ s.
     let slots = ap₂ (λ (k : ℕ) σ. take k (slot_list σ)) kb c.in-Filled.is in
     let h = subst IsSound c.in-Filled.is c.requires in
     let total : c.min.result ≡ min (c.in-Filled.weight.nodes + c.in_ok-others-in-Filled.others) 1000001 =
-        omega (arith, c.min.ensures, c.saturating_add.ensures) in
+    omega (arith, c.min.ensures, c.saturating_add.ensures) in
     counted_first s c.args.written c.saturating_sub.result c.in-Filled.weight x NS T OS
     c.in_ok-others-in-Filled.others c.min.result c.if-written-eq0.true c.saturating_sub.ensures h.0
     (c.in_ok-others-in-Filled.ensures.ok s) total

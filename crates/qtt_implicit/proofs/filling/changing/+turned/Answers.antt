@@ -1,5 +1,5 @@
 -- One slot more is turned round.
-use Rattle.std.proofs.Common.{◌≡◌, ◌∙◌, ◌++◌, ap, sym, subst, reverse, IfOk, Option, Some, None}
+use Rattle.std.proofs.Common.{◌∙◌, ◌++◌, ap, sym, subst, reverse, IfOk, Some, None}
 use Rattle.qtt_implicit.specs.Matching.{Slots}
 use Rattle.qtt_implicit.specs.Nodes.{node_tree}
 use Rattle.qtt_implicit.specs.Slots.{AreSlots, seen, slot_list}

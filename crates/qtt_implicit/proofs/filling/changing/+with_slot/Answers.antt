@@ -1,7 +1,7 @@
 -- A slot that takes what is known, and one that does not take what is not.
-use Rattle.std.proofs.Common.{◌≡◌, ◌∙◌, ap, sym, subst, ℕ, ◌+◌, arith, IfOk, ◌∷◌, Option, Some, None}
-use Rattle.qtt_implicit.specs.Matching.{Slots, fill_slot}
-use Rattle.qtt_implicit.specs.Slots.{AreSlots, IsSound, shared_tree, slot_list}
+use Rattle.std.proofs.Common.{◌≡◌, ◌∙◌, ap, sym, subst, arith}
+use Rattle.qtt_implicit.specs.Matching.{fill_slot}
+use Rattle.qtt_implicit.specs.Slots.{IsSound, shared_tree, slot_list}
 use Rattle.qtt_implicit.proofs.Standing.{if_ok, known_weight, taken, not_taken}
 use Rattle.qtt_implicit.proofs.filling.changing.+with_slot.Goals as goal
 

@@ -1,6 +1,6 @@
 -- Slots that stay are moved by none.
-use Rattle.std.proofs.Common.{◌≡◌, ◌∙◌, ap, sym, ℕ}
-use Rattle.qtt_implicit.specs.Slots.{AreSlots, IsSound, moved_slots, slot_list}
+use Rattle.std.proofs.Common.{◌∙◌, ap, sym, ℕ}
+use Rattle.qtt_implicit.specs.Slots.{moved_slots, slot_list}
 use Rattle.qtt_implicit.proofs.Standing.{moved_none}
 use Rattle.qtt_implicit.proofs.filling.changing.moved.Goals as goal
 

@@ -1,5 +1,5 @@
 -- One argument of the family more, and none.
-use Rattle.std.proofs.Common.{◌≡◌, ◌∙◌, ◌++◌, ◌∷◌, ap, sym, ℕ, suc, arith, reverse, take, Option, Some}
+use Rattle.std.proofs.Common.{◌≡◌, ◌∙◌, ◌++◌, ◌∷◌, ap, sym, ℕ, suc, arith, reverse, take, Some}
 use mathlib.Core.Path.{ap₂}
 use Rattle.qtt_syntax.specs.Tree.{Tree}
 use Rattle.qtt_implicit.specs.Matching.{Slots}

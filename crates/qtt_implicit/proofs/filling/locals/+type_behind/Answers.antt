@@ -1,7 +1,6 @@
 -- The type of a name behind one more binder.
-use Rattle.std.proofs.Common.{◌≡◌, ◌∙◌, ◌++◌, ◌∷◌, ap, sym, subst, map, replicate, ℕ, suc, ◌+◌, ◌-◌, arith, IfOk}
-use Rattle.qtt_syntax.specs.Tree.{Tree}
-use Rattle.qtt_implicit.specs.Moving.{shifted, unknown}
+use Rattle.std.proofs.Common.{◌≡◌, ◌∙◌, ap, sym, ℕ, suc, ◌+◌, ◌-◌, arith}
+use Rattle.qtt_implicit.specs.Moving.{shifted}
 use Rattle.qtt_implicit.specs.TextTypes.{local_types, type_tree}
 use Rattle.qtt_implicit.specs.Walk.{type_at}
 use Rattle.qtt_implicit.proofs.Locals.{first_behind, later_behind, unmet, met}

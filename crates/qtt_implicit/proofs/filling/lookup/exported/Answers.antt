@@ -1,5 +1,5 @@
 -- The first import of this number.
-use Rattle.std.proofs.Common.{◌≡◌, ◌∙◌, ◌∷◌, ap, sym, map, drop, suc, slice_get, eq-eqb}
+use Rattle.std.proofs.Common.{◌∙◌, ◌∷◌, ap, sym, map, drop, suc, slice_get, eq-eqb}
 use Rattle.std.proofs.Math.Seq.{drop-cons}
 use Rattle.qtt_implicit.specs.Known.{exported}
 use Rattle.qtt_implicit.specs.KnownItems.{import_of}

@@ -1,8 +1,8 @@
 -- Two applications are matched part by part.
-use Rattle.std.proofs.Common.{◌≡◌, ◌∙◌, ap, sym, subst, ℕ, nat_eq, true, false, Some}
+use Rattle.std.proofs.Common.{◌≡◌, ◌∙◌, ap, sym, subst, ℕ, nat_eq, true, false}
 use mathlib.Core.Path.{ap₂}
 use Rattle.qtt_syntax.specs.Tree.{Tree}
-use Rattle.qtt_implicit.specs.Matching.{Slots, argument_count, matched, matched_arguments}
+use Rattle.qtt_implicit.specs.Matching.{argument_count, matched, matched_arguments}
 use Rattle.qtt_implicit.specs.Nodes.{argument_row, node_tree}
 use Rattle.qtt_implicit.specs.TextTypes.{Applies, arguments_in, open_list, type_tree}
 use Rattle.qtt_implicit.proofs.Matched.{count_in, matched_applied, matched_uneven}
@@ -21,8 +21,8 @@ matched-returns-in_ok-slots-in-Some t c =
     let YS = arguments_in found.function.shared row in
     let h = subst (Applies T) c.in-Some.is c.in_ok-application-in-Apply.ensures in
     let even : nat_eq (argument_count XS) (argument_count YS) ≡ true =
-        ap (λ (k : ℕ). nat_eq (argument_count XS) k) (count_in found.function.shared row)
-        ∙ sym c.same_count.ensures ∙ c.if-same_count.true in
+    ap (λ (k : ℕ). nat_eq (argument_count XS) k) (count_in found.function.shared row)
+    ∙ sym c.same_count.ensures ∙ c.if-same_count.true in
     if_ok c.matched_arguments.result _ _ (λ s e. e
     ∙ ap (matched_arguments XS YS) c.in_ok-slots-in-Some.ensures
     ∙ sym (matched_applied F G XS YS c.in-Apply.span found.span T σ h even)
@@ -40,8 +40,8 @@ matched-returns-else-same_count t c =
     let YS = arguments_in found.function.shared row in
     let h = subst (Applies T) c.in-Some.is c.in_ok-application-in-Apply.ensures in
     let uneven : nat_eq (argument_count XS) (argument_count YS) ≡ false =
-        ap (λ (k : ℕ). nat_eq (argument_count XS) k) (count_in found.function.shared row)
-        ∙ sym c.same_count.ensures ∙ c.if-same_count.false in
+    ap (λ (k : ℕ). nat_eq (argument_count XS) k) (count_in found.function.shared row)
+    ∙ sym c.same_count.ensures ∙ c.if-same_count.false in
     sym (matched_uneven F G XS YS c.in-Apply.span found.span T σ h uneven)
     ∙ sym (ap (λ p. matched (node_tree p) T σ) c.in-Apply.is)
 

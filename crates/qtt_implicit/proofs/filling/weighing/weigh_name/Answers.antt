@@ -1,5 +1,5 @@
 -- A free local name weighs what stands for it.
-use Rattle.std.proofs.Common.{◌≡◌, ◌∙◌, ap, sym, ℕ}
+use Rattle.std.proofs.Common.{◌∙◌, ap, sym, ℕ}
 use Rattle.qtt_syntax.specs.declared.expr.Target.{Target}
 use Rattle.qtt_implicit.specs.Moving.{replaced_name}
 use Rattle.qtt_implicit.specs.Nodes.{used_name}

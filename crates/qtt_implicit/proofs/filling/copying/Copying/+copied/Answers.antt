@@ -1,11 +1,11 @@
 -- The copies of forms, by those of their parts.
-use Rattle.std.proofs.Common.{◌≡◌, ◌∙◌, ap, sym, subst, ℕ, ◌+◌, ◌-◌, arith, IfOk}
+use Rattle.std.proofs.Common.{◌≡◌, ◌∙◌, ap, sym, ℕ, ◌+◌, ◌-◌, arith}
 use Rattle.qtt_syntax.specs.declared.expr.Target.{Target}
 use Rattle.qtt_syntax.specs.Tree.{Tree}
 use Rattle.qtt_implicit.specs.Moving.{changed, replaced_name, shifted}
-use Rattle.qtt_implicit.specs.Nodes.{annotation_tree, argument_row, binder_row, node_tree, statement_row, used_name}
+use Rattle.qtt_implicit.specs.Nodes.{argument_row, binder_row, node_tree, statement_row, used_name}
 use Rattle.qtt_implicit.specs.Slots.{moving, replacing, slot_list, stands}
-use Rattle.qtt_implicit.specs.Copies.{copied, copied_annotation, copied_arguments, copied_binders, copied_statements, placing, standing}
+use Rattle.qtt_implicit.specs.Copies.{copied, copied_arguments, copied_binders, copied_statements, placing, standing}
 use Rattle.qtt_implicit.proofs.Copied.{apply_same, argument_same, bind_same, copied_free, copied_seen, lambda_body, lambda_same, letting_same, local_same, pi_same, plain_same, run_same, the_same, typed_same}
 use Rattle.qtt_implicit.proofs.Standing.{if_ok}
 use Rattle.qtt_implicit.proofs.filling.copying.Copying.+copied.Goals as goal

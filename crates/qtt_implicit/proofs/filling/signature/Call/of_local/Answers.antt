@@ -1,5 +1,5 @@
 -- A local name takes no braces.
-use Rattle.std.proofs.Common.{◌≡◌, ◌∙◌, ap, sym, ℕ, ◌<◌, ◌≤◌, arith, length, Result, Ok, Err}
+use Rattle.std.proofs.Common.{◌∙◌, ap, sym, ℕ, ◌<◌, ◌≤◌, arith, length, Result, Ok, Err}
 use Rattle.qtt_implicit.specs.Filling.{Stop}
 use Rattle.qtt_implicit.specs.Nodes.{used_name}
 use Rattle.qtt_implicit.specs.TextTypes.{given_list, type_tree}

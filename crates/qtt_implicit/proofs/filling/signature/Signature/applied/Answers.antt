@@ -1,5 +1,5 @@
 -- More braces than binders, or no more.
-use Rattle.std.proofs.Common.{◌≡◌, ◌∙◌, ap, sym, subst, ℕ, ◌<◌, ◌≤◌, arith, length, Result, Ok, Err}
+use Rattle.std.proofs.Common.{◌∙◌, ap, sym, subst, ℕ, ◌<◌, ◌≤◌, arith, length, Result, Err}
 use mathlib.Core.Path.{ap₂}
 use Rattle.qtt_syntax.specs.Tree.{Tree}
 use Rattle.qtt_implicit.specs.Filling.{Stop}

@@ -1,5 +1,5 @@
 -- A slot that is not filled, nodes that are too many, and the application.
-use Rattle.std.proofs.Common.{◌≡◌, ◌∙◌, ◌++◌, ap, sym, subst, ℕ, map, take, length, sum_by, List, Option, Result, Ok, Err}
+use Rattle.std.proofs.Common.{◌∙◌, ◌++◌, ap, sym, subst, ℕ, map, take, length, sum_by, Result, Ok}
 use mathlib.Core.Path.{ap₂}
 use Rattle.std.specs.Prelude.{min}
 use Rattle.qtt_syntax.specs.Tree.{Tree}
@@ -45,8 +45,8 @@ returns-in-Err-put c =
     let N = sum_by inserted_nodes (filled_arguments S n xs r.0) in
     let NS = binder_names c.args.self.braces (node_tree c.behind_binders-chain.result.now) in
     let counted = c.in-Ok.ensures.ok n.span
-        ∙ ap (λ (k : ℕ). min (sum_by inserted_nodes (solved n.span k NS OS)) 1000001) c.requires
-        ∙ ap₂ (λ ns os. min (sum_by inserted_nodes (solved n.span (length (in_braces xs)) ns os)) 1000001) names slots in
+    ∙ ap (λ (k : ℕ). min (sum_by inserted_nodes (solved n.span k NS OS)) 1000001) c.requires
+    ∙ ap₂ (λ ns os. min (sum_by inserted_nodes (solved n.span (length (in_braces xs)) ns os)) 1000001) names slots in
     let none = sym (ap₂ first_unsolved names slots) ∙ c.in-Ok.ensures.solved in
     let answer = at_slots_put S n xs s r left none in
     subst (IsStop c.in-Err-put.stop) (sym answer)
@@ -67,16 +67,16 @@ returns-in_ok-filled-in-Ok-put c =
     let N = sum_by inserted_nodes (filled_arguments S n xs r.0) in
     let NS = binder_names c.args.self.braces (node_tree c.behind_binders-chain.result.now) in
     let counted = c.in-Ok.ensures.ok n.span
-        ∙ ap (λ (k : ℕ). min (sum_by inserted_nodes (solved n.span k NS OS)) 1000001) c.requires
-        ∙ ap₂ (λ ns os. min (sum_by inserted_nodes (solved n.span (length (in_braces xs)) ns os)) 1000001) names slots in
+    ∙ ap (λ (k : ℕ). min (sum_by inserted_nodes (solved n.span k NS OS)) 1000001) c.requires
+    ∙ ap₂ (λ ns os. min (sum_by inserted_nodes (solved n.span (length (in_braces xs)) ns os)) 1000001) names slots in
     let none = sym (ap₂ first_unsolved names slots) ∙ c.in-Ok.ensures.solved in
     let answer = at_slots_put S n xs s r left none in
     let Y = map given_argument (not_in_braces xs) in
     let T = type_tree c.args.judged.ty in
     let same = c.in_ok-filled-in-Ok-put.ensures
-        ∙ ap (λ (k : ℕ). walked (application (name n) (solved n.span k (names_in_braces S) OS ++ Y) s) T) c.requires
-        ∙ ap (λ (os : Slots). walked (application (name n)
-        (solved n.span (length (in_braces xs)) (names_in_braces S) os ++ Y) s) T) slots in
+    ∙ ap (λ (k : ℕ). walked (application (name n) (solved n.span k (names_in_braces S) OS ++ Y) s) T) c.requires
+    ∙ ap (λ (os : Slots). walked (application (name n)
+    (solved n.span (length (in_braces xs)) (names_in_braces S) os ++ Y) s) T) slots in
     answer
     ∙ ap (λ (o : Result (Unit {0} × ℕ) Stop). goes_on o F) (c.in-Ok-put.ensures N counted)
     ∙ ap (λ (v : Walked). let o : Result (Walked × ℕ) Stop = Ok (v, c.put.new.self.nodes) in o) (sym same)

@@ -1,5 +1,5 @@
 -- The application with its arguments.
-use Rattle.std.proofs.Common.{◌≡◌, ◌∙◌, ◌++◌, ap, sym, map, take}
+use Rattle.std.proofs.Common.{◌∙◌, ◌++◌, ap, map, take}
 use Rattle.qtt_syntax.specs.Tree.{Tree}
 use Rattle.qtt_implicit.specs.Nodes.{argument_row, node_tree}
 use Rattle.qtt_implicit.specs.Signatures.{signature_of}
@@ -19,9 +19,9 @@ returns c =
     let Y = map given_argument (not_in_braces (given_list c.args.call.givens.now)) in
     let T = type_tree c.args.judged.ty in
     let row = c.in_ok-row.ensures
-        ∙ ap (λ (t : Tree). in_front (solved s k (binder_names b t) OS) (argument_row c.in_ok-written.written.now))
-        c.behind_binders-chain.ensures
-        ∙ ap (in_front X) c.in_ok-written.ensures
-        ∙ front_of_row X Y in
+    ∙ ap (λ (t : Tree). in_front (solved s k (binder_names b t) OS) (argument_row c.in_ok-written.written.now))
+    c.behind_binders-chain.ensures
+    ∙ ap (in_front X) c.in_ok-written.ensures
+    ∙ front_of_row X Y in
     ap (λ (t : Tree). walked t T) (c.in_ok-application.ensures (X ++ Y) row
     ∙ ap (λ f. application (node_tree f) (X ++ Y) c.args.call.span) c.in_ok-name.ensures)

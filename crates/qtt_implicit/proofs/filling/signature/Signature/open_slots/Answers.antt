@@ -1,5 +1,5 @@
 -- The slots, turned round.
-use Rattle.std.proofs.Common.{◌≡◌, ◌∙◌, ◌++◌, ◌-◌, ap, sym, ℕ, map, reverse, length}
+use Rattle.std.proofs.Common.{◌∙◌, ◌++◌, ◌-◌, ap, sym, ℕ, map, reverse, length}
 use mathlib.Core.Path.{ap₂}
 use Rattle.qtt_implicit.specs.Matching.{Slots}
 use Rattle.qtt_implicit.specs.TextTypes.{given_list}

@@ -1,9 +1,7 @@
 -- What stands for a local name.
-use Rattle.std.proofs.Common.{◌≡◌, sym, subst, Option, Some, None}
-use Rattle.qtt_syntax.specs.declared.expr.Named.{Named}
+use Rattle.std.proofs.Common.{sym, subst}
 use Rattle.qtt_implicit.specs.Moving.{shifted}
 use Rattle.qtt_implicit.specs.Slots.{Resolves, slot_list, stands}
-use Rattle.qtt_implicit.specs.declared.filling.slots.Rest.{Rest}
 use Rattle.qtt_implicit.proofs.Standing.{resolves_filled, resolves_unfilled}
 use Rattle.qtt_implicit.proofs.filling.slots.Shared.resolved.Goals as goal
 

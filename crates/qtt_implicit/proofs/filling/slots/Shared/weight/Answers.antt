@@ -1,5 +1,5 @@
 -- What is moved weighs as much.
-use Rattle.std.proofs.Common.{◌≡◌, ◌∙◌, sym, IfOk}
+use Rattle.std.proofs.Common.{◌∙◌, sym}
 use Rattle.qtt_implicit.specs.Moving.{replaced}
 use Rattle.qtt_implicit.specs.Nodes.{node_tree}
 use Rattle.qtt_implicit.specs.Slots.{slot_list, stands}

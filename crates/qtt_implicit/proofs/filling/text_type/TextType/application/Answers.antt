@@ -1,5 +1,5 @@
 -- An application stands for one.
-use Rattle.std.proofs.Common.{◌≡◌, ◌∙◌, ap, sym}
+use Rattle.std.proofs.Common.{◌∙◌, ap, sym}
 use mathlib.Core.Path.{ap₂}
 use Rattle.qtt_syntax.specs.Tree.Tree.{apply}
 use Rattle.qtt_implicit.specs.Nodes.{argument_row, node_tree}

@@ -1,5 +1,5 @@
 -- The argument fills one more slot.
-use Rattle.std.proofs.Common.{◌≡◌, ◌∙◌, ◌∷◌, ap, sym, ℕ, Option, Some}
+use Rattle.std.proofs.Common.{◌∙◌, ◌∷◌, ap, sym, Some}
 use mathlib.Core.Path.{ap₂}
 use Rattle.qtt_syntax.specs.Tree.{Tree}
 use Rattle.qtt_implicit.specs.Matching.{Slots, codomain}
