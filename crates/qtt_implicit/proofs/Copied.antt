@@ -58,7 +58,8 @@ copied_beyond p m d k i n =
     ap (changed (placing p) d) (shifted_under m d (at_binder (i + k) n) ∙ shifted_binder (d + m) (i + k) n)
 
 -- ---- names
-pub copied_bound : (p : Option Span) (m d i : ℕ) (σ : ℕ → Named → Tree) (n : Named) → n.target ≡ target.Local i → i < d →
+pub copied_bound : (p : Option Span) (m d i : ℕ) (σ : ℕ → Named → Tree) (n : Named) → n.target ≡ target.Local i →
+    i < d →
     changed (placing p) d (changed (moving m) d (replaced_name σ d n (target.Local i))) ≡
     name (record { path = n.path; target = target.Local i; span = span_at p n.span })
 copied_bound p m d i σ n e h =
@@ -83,7 +84,8 @@ copied_free p m d i σ n h =
     ap (λ (t : Tree). changed (placing p) d (changed (moving m) d t)) (free_stands σ d i n h)
 
 -- ---- depths behind binders and statements, of which the first changes change none
-pub count_twice : (f g : Change) (d e : ℕ) (bs : Binders) → count (changed_binders f d (changed_binders g e bs)) ≡ count bs
+pub count_twice : (f g : Change) (d e : ℕ) (bs : Binders) →
+    count (changed_binders f d (changed_binders g e bs)) ≡ count bs
 count_twice f g d e bs = count_changed f d (changed_binders g e bs) ∙ count_changed g e bs
 
 -- the body of a `\`
@@ -124,7 +126,8 @@ pub plain_same : {n l : Local} {xs ys : Binders} → n ≡ l → xs ≡ ys →
     binder_and (plain n) xs ≡ binder_and (plain l) ys
 plain_same p q = cc
 
-pub typed_same : (m : Mult) {n l : Local} {t u : Tree} {s r : Span} {xs ys : Binders} → n ≡ l → t ≡ u → s ≡ r → xs ≡ ys →
+pub typed_same : (m : Mult) {n l : Local} {t u : Tree} {s r : Span} {xs ys : Binders} →
+    n ≡ l → t ≡ u → s ≡ r → xs ≡ ys →
     binder_and (typed_binder m n t s) xs ≡ binder_and (typed_binder m l u r) ys
 typed_same m e p o q = cc
 

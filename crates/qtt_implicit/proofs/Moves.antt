@@ -50,7 +50,8 @@ same_tree c names marks spans d t =
 abbrev pub naming : (ℕ → Named → Tree) → Change
 naming f = record { name = f; mark = kept; span = kept }
 
-at_itself : (p : List ℕ) (i j : ℕ) (s : Span) → i ≡ j → at_binder i (named p (target.Local j) s) ≡ name (named p (target.Local j) s)
+at_itself : (p : List ℕ) (i j : ℕ) (s : Span) → i ≡ j →
+    at_binder i (named p (target.Local j) s) ≡ name (named p (target.Local j) s)
 at_itself p i j s e = ap (λ (k : ℕ). at_binder k (named p (target.Local j) s)) e
 
 -- ---- moving
@@ -58,7 +59,8 @@ unmoved_name : (d : ℕ) (p : List ℕ) (t : Target) (s : Span) →
     shifted_name 0 d (named p t s) t ≡ name (named p t s)
 unmoved_name d p (target.Local i) s = by (nat_lt i d)
   where
-    by : (b : Bool) → (if b then name (named p (target.Local i) s) else at_binder (i + 0) (named p (target.Local i) s)) ≡
+    by : (b : Bool) →
+        (if b then name (named p (target.Local i) s) else at_binder (i + 0) (named p (target.Local i) s)) ≡
         name (named p (target.Local i) s)
     by true = refl
     by false = at_itself p (i + 0) i s (omega arith)

@@ -39,10 +39,7 @@ pub fn with_slot<'a>(
                     Ok(slots)
                 }
             }
-            Some(index) => {
-                let older = with_slot(older, arena, index, text)?;
-                placed(arena, Slots::Empty(older))
-            }
+            Some(index) => placed(arena, Slots::Empty(with_slot(older, arena, index, text)?)),
         },
         Slots::Filled {
             text: first,

@@ -29,7 +29,8 @@ returns-in-Some t c =
 pub returns-in-None-checked_sub-2 : goal.returns-in-None-checked_sub-2
 returns-in-None-checked_sub-2 t c =
     if_ok c.unknown-in-None-checked_sub-2.result _ _ (λ u h. h
-    ∙ sym (ap (shifted c.args.moved) (unmet c.in-Unmet.count c.args.index (local_types c.in-Unmet.older.now) (omega arith)))
+    ∙ sym (ap (shifted c.args.moved) (unmet c.in-Unmet.count c.args.index (local_types c.in-Unmet.older.now)
+    (omega arith)))
     ∙ sym (ap (λ l. shifted c.args.moved (type_at (local_types l) c.args.index)) c.in-Unmet.is))
     c.unknown-in-None-checked_sub-2.ensures
 

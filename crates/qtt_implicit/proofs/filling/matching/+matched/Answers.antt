@@ -45,7 +45,8 @@ matched-returns-else-same_count t c =
     sym (matched_uneven F G XS YS c.in-Apply.span found.span T σ h uneven)
     ∙ sym (ap (λ p. matched (node_tree p) T σ) c.in-Apply.is)
 
-pub matched_arguments-returns-in_ok-slots-in-More-arguments : goal.matched_arguments-returns-in_ok-slots-in-More-arguments
+pub matched_arguments-returns-in_ok-slots-in-More-arguments :
+    goal.matched_arguments-returns-in_ok-slots-in-More-arguments
 matched_arguments-returns-in_ok-slots-in-More-arguments t c =
     let σ = open_list c.args.slots in
     let s = c.args.text.shared in

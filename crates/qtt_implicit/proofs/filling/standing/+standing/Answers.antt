@@ -27,7 +27,8 @@ returns-in-Some-checked_sub t c = λ r n.
     subst P
     (sym (ap (λ s. stands r (slot_list s) c.args.index n) c.in-Filled.is
     ∙ later_stands r (Some (seen c.in-Filled.text.rest c.in-Filled.text.moved
-    (slot_list c.in-Filled.text.slots.now) (node_tree c.in-Filled.text.tree.now))) (slot_list c.in-Filled.older.now) c.args.index c.in-Some-checked_sub.index n e))
+    (slot_list c.in-Filled.text.slots.now) (node_tree c.in-Filled.text.tree.now)))
+    (slot_list c.in-Filled.older.now) c.args.index c.in-Some-checked_sub.index n e))
     (c.standing-in-Some-checked_sub.ensures r n)
 
 pub returns-in-None-local : goal.returns-in-None-local
@@ -87,5 +88,6 @@ returns-in-Some-2 t c = λ r n.
     subst (λ x. Resolves (shifted c.args.moved (stands r (slot_list x) c.args.index n)) (Some c.in-Some-2.text))
     (sym c.in-Filled.is)
     (first_resolves r here (slot_list c.in-Filled.older.now) c.args.index c.args.moved n (Some c.in-Some-2.text) e
-    (moved_resolves s c.in-Filled.text.moved c.args.moved (Some c.in-Some-2.text) c.in_ok-deeper-in-None-checked_sub.ensures
+    (moved_resolves s c.in-Filled.text.moved c.args.moved (Some c.in-Some-2.text)
+    c.in_ok-deeper-in-None-checked_sub.ensures
     (resolves_filled s c.in-Some-2.text c.in-Some-local.index (sym c.in-Some-local.ensures) all)))

@@ -45,7 +45,8 @@ pub weigh-returns-in_ok-body-in-Let : goal.weigh-returns-in_ok-body-in-Let
 weigh-returns-in_ok-body-in-Let t c =
     let R = replacing (stands c.args.rest (slot_list c.args.slots.now)) in
     sum_two _ _ _ _ c.node-in-Let.ensures
-    (sum_two _ _ _ _ c.in_ok-ty-in-Let.ensures (sum_two _ _ _ _ c.in_ok-value-in-Let.ensures (c.in_ok-body-in-Let.ensures
+    (sum_two _ _ _ _ c.in_ok-ty-in-Let.ensures (sum_two _ _ _ _ c.in_ok-value-in-Let.ensures
+    (c.in_ok-body-in-Let.ensures
     ∙ ap (λ (k : ℕ). weight_of (changed R k (node_tree c.in-Let.body.now)))
     c.in_ok-inside-in-Let.ensures)
     c.and-in-Let.ensures) c.and-in-Let-2.ensures) c.and-in-Let-3.ensures
@@ -88,7 +89,8 @@ pub weigh_statements-returns-in_ok-others-in-Bind : goal.weigh_statements-return
 weigh_statements-returns-in_ok-others-in-Bind t c =
     let R = replacing (stands c.args.rest (slot_list c.args.slots.now)) in
     sum_two _ _ _ _ c.in_ok-value-in-Bind.ensures (c.in_ok-others-in-Bind.ensures
-    ∙ ap (λ (k : ℕ). weight_by (λ v. weighed_statements v (changed_statements R k (statement_row c.in-Bind.others.now))))
+    ∙ ap (λ (k : ℕ). weight_by (λ v. weighed_statements v
+    (changed_statements R k (statement_row c.in-Bind.others.now))))
     c.in_ok-deeper-in-Bind.ensures)
     c.and.ensures
     ∙ sym (ap (λ x. weight_by (λ v. weighed_statements v (changed_statements R c.args.depth (statement_row x))))
