@@ -5,7 +5,7 @@ use Rattle.qtt_base.specs.declared.place.Span.{Span}
 use Rattle.qtt_syntax.specs.declared.expr.Mark.{Mark}
 use Rattle.qtt_syntax.specs.declared.expr.Target.{Target}
 use Rattle.qtt_syntax.specs.declared.expr.Target.TheVariants as target
-use Rattle.qtt_syntax.specs.Tree.{Tree, Argument, Arguments}
+use Rattle.qtt_syntax.specs.Tree.{Tree, Arguments}
 use Rattle.qtt_syntax.specs.Tree.Tree.{name, number, text, universe, hole, the, apply, pi, lambda, letting, doing}
 use Rattle.qtt_syntax.specs.Tree.Argument.{argument}
 use Rattle.qtt_syntax.specs.Tree.Arguments.{no_argument, argument_and}
