@@ -2,13 +2,14 @@
 use Rattle.std.specs.Prelude.{ℕ, List, map}
 use Rattle.qtt_names.specs.Exports.{Exports, Sig}
 use Rattle.qtt_implicit.specs.Known.{Known}
+use Rattle.qtt_implicit.specs.OwnItems.{own_of}
 use Rattle.qtt_implicit.specs.Signatures.{signature_of}
 use Rattle.qtt_implicit.specs.declared.filling.known.Import.{Import}
 use Rattle.qtt_implicit.specs.declared.filling.known.Known as known_code
-use Rattle.qtt_implicit.specs.declared.filling.known.OwnItem.{OwnItem}
+use Rattle.qtt_implicit.specs.declared.filling.own_items.OwnItems.{OwnItems}
 
-abbrev pub own_of : OwnItem → List ℕ × Sig
-own_of o = (o.name.now, signature_of o.sig)
+abbrev pub own_list : OwnItems → List (List ℕ × Sig)
+own_list s = map own_of s.items.items
 
 abbrev pub import_of : Import → Exports
 import_of i = record {
@@ -19,4 +20,4 @@ import_of i = record {
 }
 
 abbrev pub known_of : known_code.Known → Known
-known_of k = record { home = k.home; own = map own_of k.own.items; imports = map import_of k.imports.items }
+known_of k = record { home = k.home; own = own_list k.own; imports = map import_of k.imports.items }

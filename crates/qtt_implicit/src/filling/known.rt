@@ -1,15 +1,9 @@
 //! The signatures that a text sees.
 
+use crate::filling::own_items::OwnItems;
 use crate::filling::signature::Signature;
-use qtt_base::{ModuleId, Name};
+use qtt_base::ModuleId;
 use qtt_names::Exports;
-
-/// An own item of the text.
-#[derive(Clone, Copy)]
-pub struct OwnItem<'a> {
-    pub name: &'a Name,
-    pub sig: Signature<'a>,
-}
 
 /// A module that is imported, and the signatures of its items in the order of their numbers.
 #[derive(Drop)]
@@ -23,6 +17,6 @@ pub struct Import<'a> {
 #[derive(Drop)]
 pub struct Known<'a> {
     pub home: ModuleId,
-    pub own: Vec<OwnItem<'a>>,
+    pub own: OwnItems<'a>,
     pub imports: Vec<Import<'a>>,
 }

@@ -1,22 +1,13 @@
 //! Signatures looked up.
 
 ghost use Rattle.std.specs.Prelude.{◌≡◌, map, option_map, slice_get};
-ghost use Rattle.qtt_implicit.specs.Known.{exported as exported_by, own_signature, signature as signature_in, signature_named as named_in};
-ghost use Rattle.qtt_implicit.specs.KnownItems.{import_of, known_of, own_of};
+ghost use Rattle.qtt_implicit.specs.Known.{exported as exported_by, signature as signature_in, signature_named as named_in};
+ghost use Rattle.qtt_implicit.specs.KnownItems.{import_of, known_of};
 ghost use Rattle.qtt_implicit.specs.Signatures.{signature_of};
 
-use crate::filling::known::{Import, Known, OwnItem};
+use crate::filling::known::{Import, Known};
 use crate::filling::signature::Signature;
 use qtt_base::{GlobalId, Name};
-
-fn own<'a>(items: &[OwnItem<'a>], number: u32) -> Option<Signature<'a>>
-    ensures { option_map signature_of result ≡ own_signature (map own_of items.now) number }
-{
-    match items.get(number as usize) {
-        Some(item) => Some(item.sig),
-        None => None,
-    }
-}
 
 fn numbered<'a>(sigs: &[Signature<'a>], number: u32) -> Option<Signature<'a>>
     ensures { option_map signature_of result ≡ slice_get (map signature_of sigs.now) number }
@@ -44,7 +35,7 @@ impl<'a> Known<'a> {
         ensures { option_map signature_of result ≡ signature_in (known_of self.now) id }
     {
         if id.module.0 == self.home.0 {
-            own(&self.own, id.item)
+            self.own.numbered(id.item)
         } else {
             exported(&self.imports, id)
         }
@@ -54,11 +45,6 @@ impl<'a> Known<'a> {
     pub fn signature_named(&self, name: &Name) -> Option<Signature<'a>>
         ensures { option_map signature_of result ≡ named_in (known_of self.now) name.now }
     {
-        for item in &self.own {
-            if *item.name == *name {
-                return Some(item.sig);
-            }
-        }
-        None
+        self.own.named(name)
     }
 }
