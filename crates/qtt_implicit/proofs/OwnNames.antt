@@ -1,5 +1,5 @@
 -- Own items by their names.
-use Rattle.std.proofs.Common.{◌≡◌, ℕ, zero, suc, ◌+◌, ◌<◌, Bool, true, false, cond, List, [], ◌∷◌, ◌++◌, map, length, slice_index_or, Option, Some, None, refl, sym, ap, ◌∙◌, subst, arith, Bor, Result, Ok, Err}
+use Rattle.std.proofs.Common.{◌≡◌, ℕ, suc, ◌+◌, ◌<◌, Bool, true, false, cond, List, [], ◌∷◌, ◌++◌, map, length, slice_index_or, Option, Some, None, refl, sym, ap, ◌∙◌, subst, arith, Bor, Result, Ok, Err}
 use Rattle.std.specs.Prelude.{option_map, find, is_some}
 use Rattle.std.specs.Option.{option_or, option_copied}
 use Rattle.std.specs.Result.{is_err, OnOk}
@@ -55,7 +55,7 @@ there-stays own o q there = by_test (same_name o.name.now q) refl ∙ sym (behin
     by_test : (t : Bool) → same_name o.name.now q ≡ t → place_named own q ≡
         option_or (place_named own q) (cond (same_name o.name.now q) (Some (length own)) None)
     by_test true e = or-there _ _ (subst (λ n. is_some (place_named own n) ≡ true)
-            (same-is o.name.now q e) there)
+        (same-is o.name.now q e) there)
     by_test false e =
         sym (or-nothing (place_named own q)) ∙
         sym (ap (λ t. option_or (place_named own q) (cond t (Some (length own)) None)) e)
@@ -70,13 +70,14 @@ new-next own o q new absent is = is ∙ by_test (same_name o.name.now q) refl �
     nothing None e = refl
     nothing (Some k) e = absurd (cc e)
 
-    by_test : (t : Bool) → same_name o.name.now q ≡ t → cond (bytes_eq o.name.now q) (Some (length own)) (place_named own q) ≡
+    by_test : (t : Bool) → same_name o.name.now q ≡ t →
+        cond (bytes_eq o.name.now q) (Some (length own)) (place_named own q) ≡
         option_or (place_named own q) (cond (same_name o.name.now q) (Some (length own)) None)
     by_test true e =
         let front = subst (λ n. place_named own n ≡ None) (same-is o.name.now q e) (nothing _ absent) in
         ap (λ t. cond t (Some (length own)) (place_named own q)) e ∙
         sym (ap (λ r. option_or r (cond (same_name o.name.now q) (Some (length own)) None)) front ∙
-            ap (λ t. cond t (Some (length own)) None) e)
+        ap (λ t. cond t (Some (length own)) None) e)
     by_test false e =
         ap (λ t. cond t (Some (length own)) (place_named own q)) e ∙ sym (or-nothing (place_named own q)) ∙
         sym (ap (λ t. option_or (place_named own q) (cond t (Some (length own)) None)) e)
@@ -96,7 +97,7 @@ stands (o ∷ own) q =
         option_map (λ (p : List ℕ × Sig). p.1)
         (cond t (Some (own_of o)) (find (λ (p : List ℕ × Sig). same_name p.0 q) (map own_of own)))
     there t e = ap (λ b. option_map (λ (p : List ℕ × Sig). p.1)
-            (cond b (Some (own_of o)) (find (λ (p : List ℕ × Sig). same_name p.0 q) (map own_of own)))) e
+        (cond b (Some (own_of o)) (find (λ (p : List ℕ × Sig). same_name p.0 q) (map own_of own)))) e
 
     by_test : (t : Bool) → same_name o.name.now q ≡ t → (r : Option ℕ) → Stands own q r →
         Stands (o ∷ own) q (cond t (Some 0) (option_map suc r))

@@ -1,5 +1,5 @@
 -- The own items of a text, as the code has them.
-use Rattle.std.specs.Prelude.{ℕ, suc, if◌then◌else◌, List, [], ◌∷◌, find, Option, Some, None, option_map}
+use Rattle.std.specs.Prelude.{ℕ, suc, if◌then◌else◌, List, [], ◌∷◌, map, find, Option, Some, None, option_map}
 use Rattle.qtt_names.specs.Exports.{Sig}
 use Rattle.qtt_names.specs.Scope.{same_name}
 use Rattle.qtt_implicit.specs.Signatures.{signature_of}
@@ -7,6 +7,9 @@ use Rattle.qtt_implicit.specs.declared.filling.own_items.OwnItem.{OwnItem}
 
 abbrev pub own_of : OwnItem → List ℕ × Sig
 own_of o = (o.name.now, signature_of o.sig)
+
+abbrev pub owned : List OwnItem → List (List ℕ × Sig)
+owned own = map own_of own
 
 -- the signature of the first item of a name
 abbrev pub named_among : List (List ℕ × Sig) → List ℕ → Option Sig

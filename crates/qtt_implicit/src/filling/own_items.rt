@@ -1,11 +1,11 @@
 //! The own items of a text so far.
 
-ghost use Rattle.std.specs.Prelude.{◌≡◌, ℕ, List, [], ◌∷◌, ◌++◌, map, option_map, slice_get, OnOk};
+ghost use Rattle.std.specs.Prelude.{◌≡◌, ℕ, List, [], ◌∷◌, ◌++◌, option_map, OnOk};
 ghost use Rattle.std.specs.Ordering.{nat_cmp};
 ghost use Rattle.std.specs.Cmp.Lexicographic.{slice_cmp};
 ghost use Rattle.std.specs.BTreeMap as tree;
 ghost use Rattle.qtt_implicit.specs.Known.{own_signature};
-ghost use Rattle.qtt_implicit.specs.OwnItems.{named_among, own_of, place_named};
+ghost use Rattle.qtt_implicit.specs.OwnItems.{named_among, owned, place_named};
 ghost use Rattle.qtt_implicit.specs.Signatures.{signature_of};
 
 use crate::filling::signature::Signature;
@@ -31,7 +31,7 @@ pub struct OwnItems<'a> {
 
 impl<'a> OwnItems<'a> {
     pub fn new(alloc: Global) -> OwnItems<'a>
-        ensures { map own_of result.items.items ≡ [] }
+        ensures { owned result.items.items ≡ [] }
     {
         OwnItems {
             items: Vec::new(alloc),
@@ -41,7 +41,7 @@ impl<'a> OwnItems<'a> {
 
     /// Puts an item behind the others.
     pub fn push(&mut self, name: &'a Name, sig: Signature<'a>) -> Result<(), MemoryError>
-        ensures { OnOk result (map own_of self.new.items.items ≡ map own_of self.old.items.items ++
+        ensures { OnOk result (owned self.new.items.items ≡ owned self.old.items.items ++
             (name.now, signature_of sig.entry) ∷ []) }
     {
         let place = self.items.len();
@@ -55,7 +55,8 @@ impl<'a> OwnItems<'a> {
     }
 
     pub fn numbered(&self, number: u32) -> Option<Signature<'a>>
-        ensures { option_map signature_of result ≡ own_signature (map own_of self.now.items.items) number }
+        ensures { option_map signature_of result ≡
+            own_signature (owned self.now.items.items) number }
     {
         match self.items.get(number as usize) {
             Some(item) => Some(item.sig),
@@ -64,7 +65,8 @@ impl<'a> OwnItems<'a> {
     }
 
     pub fn named(&self, name: &Name) -> Option<Signature<'a>>
-        ensures { option_map signature_of result ≡ named_among (map own_of self.now.items.items) name.now }
+        ensures { option_map signature_of result ≡
+            named_among (owned self.now.items.items) name.now }
     {
         let place = *self.first.get(name.as_str())?;
         Some(self.items[place].sig)
