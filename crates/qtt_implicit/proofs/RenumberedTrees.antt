@@ -20,7 +20,7 @@ use Rattle.qtt_implicit.specs.Forgetting.{renumbering, target_without}
 abbrev pub named : List ℕ → Target → Span → Named
 named p t s = record { path = p; target = t; span = s }
 
-shifted_binder : (d j : ℕ) (n : Named) → shifted d (at_binder j n) ≡ at_binder (j + d) n
+pub shifted_binder : (d j : ℕ) (n : Named) → shifted d (at_binder j n) ≡ at_binder (j + d) n
 shifted_binder d j n = by (nat_lt j 0) refl
   where
     moved : ℕ → Named

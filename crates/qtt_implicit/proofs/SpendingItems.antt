@@ -97,7 +97,7 @@ module _ (K : Known) (ms : List Mark) where
         then_spends (shapes_spend _ _ more) (λ more' j b. done_spends (omega (arith, a, b))))
 
 -- ---- items
-listed_nodes : (ps : Shapes) → sum_by shape_nodes (shape_list ps) ≡ shapes_nodes ps
+pub listed_nodes : (ps : Shapes) → sum_by shape_nodes (shape_list ps) ≡ shapes_nodes ps
 listed_nodes no_shape = refl
 listed_nodes (shape_and p more) =
     sum_more shape_nodes p (shape_list more) ∙ ap (λ n. shape_nodes p + n) (listed_nodes more)

@@ -6,7 +6,7 @@ ghost use Rattle.qtt_syntax.specs.View.{tree_of, param_of, con_of, item_of, modu
 ghost use Rattle.qtt_implicit.specs.Forget.{param_forgotten, con_forgotten, item_forgotten, text_forgotten, forgotten as tree_forgotten};
 
 mod expr;
-mod numbers;
+pub(crate) mod numbers;
 mod pattern;
 
 use numbers::Numbers;

@@ -23,7 +23,7 @@ pub fn more(number: u32, by: usize) -> Result<u32, MemoryError>
     }
 }
 
-fn is_inserted(mark: Mark) -> bool
+pub fn is_inserted(mark: Mark) -> bool
     ensures { result ≡ was_inserted mark }
 {
     match mark {

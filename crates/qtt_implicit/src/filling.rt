@@ -1,0 +1,36 @@
+//! Filling in: text types, matching and applications.
+
+pub(crate) mod applying;
+pub(crate) mod calls;
+pub(crate) mod changing;
+pub(crate) mod columns;
+pub(crate) mod copies;
+pub(crate) mod copying;
+pub(crate) mod counting;
+pub(crate) mod fields;
+pub(crate) mod givens;
+pub(crate) mod items;
+pub(crate) mod known;
+pub(crate) mod left;
+pub(crate) mod locals;
+pub(crate) mod lookup;
+pub(crate) mod matching;
+pub(crate) mod met;
+pub(crate) mod own_items;
+pub(crate) mod parts;
+pub(crate) mod places;
+pub(crate) mod reading;
+pub(crate) mod renumbering;
+pub(crate) mod results;
+pub(crate) mod shapes;
+pub(crate) mod signature;
+pub(crate) mod signatures;
+pub(crate) mod slots;
+pub(crate) mod standing;
+pub(crate) mod stop;
+pub(crate) mod text_type;
+pub(crate) mod trees;
+pub(crate) mod types;
+pub(crate) mod weighing;
+pub(crate) mod weights;
+pub(crate) mod writing;
