@@ -2,7 +2,6 @@ use Rattle.std.proofs.Common.{◌∙◌, sym, refl, ap, subst}
 use Rattle.qtt_term.specs.Contexts.{part}
 use Rattle.qtt_term.specs.Entries.{entries, env}
 use Rattle.qtt_term.specs.Infer.{usable, use_at}
-use Rattle.qtt_term.specs.Scope.{depth}
 use Rattle.qtt_term.specs.Term.{var}
 use Rattle.qtt_term.specs.View.{term}
 use Rattle.qtt_term.specs.declared.rule.Rule.TheVariants as rule
