@@ -4,3 +4,11 @@ pub mod Heads
 pub mod Derived
 pub mod Reached
 pub mod Unread
+pub mod Within
+pub mod Beside
+pub mod Switching
+pub mod Scopes
+pub mod Accepted
+pub mod Fitting
+pub mod Parted
+pub mod Seeing

@@ -6,3 +6,10 @@ pub mod Programs
 pub mod Rows
 pub mod Refused
 pub mod Laws
+pub mod Answers
+pub mod Seen
+pub mod Calls
+pub mod Listed
+pub mod Ends
+pub mod Made
+pub mod Elaborated

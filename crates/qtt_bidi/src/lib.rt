@@ -9,10 +9,21 @@
 //! and larger budgets among them, are those of `qtt_confluence::lists`. `examples`: worked
 //! programs, each premise false once, and points where a rule leaves a choice.
 //!
-//! The calls `synth` and `check`, which answer the table, are not there yet.
+//! Of the calls that answer the table stand the parts, each exact (`specs/Answers` says what a
+//! call tells: its answer, the premise that is false, or the question that is spent): contexts
+//! with names, what a global name stands for, comparisons, uses of binders, names, texts, and
+//! the results of rules. The judgement of whole expressions is not there yet.
 //!
 //! A theory: its lemmas may be cited.
 #![tactic(auto)]
 
+mod ends;
 pub mod examples;
+mod judged;
 pub mod laws;
+mod leaves;
+mod meaning;
+mod places;
+mod premises;
+mod scope;
+mod signatures;
