@@ -1,0 +1,4 @@
+pub mod Endings
+pub mod Verdicts
+pub mod Relation
+pub mod Rows
