@@ -5,3 +5,6 @@ pub mod Problems
 pub mod Unification
 pub mod Laws
 pub mod Rows
+pub mod Frequency
+pub mod Unread
+pub mod View

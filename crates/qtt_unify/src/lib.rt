@@ -6,8 +6,24 @@
 //! solved, clashes, is a deletion or is stuck, and one of these alone (`one_of_four`). Worked:
 //! `examples::equations_as_worked`.
 //!
+//! `Unifier::readings` and `Unifier::verdict` answer exactly the questions of a split's targets and
+//! of one constructor, within a budget for each. `solve`, which asks besides whether what is stuck
+//! is a deletion, is not there yet.
+//!
 //! A theory: its lemmas may be cited.
 #![tactic(auto)]
 
+mod equations;
+mod error;
 pub mod examples;
 pub mod laws;
+mod occurrences;
+mod plain;
+mod reading;
+mod targets;
+mod unifier;
+
+pub use equations::Verdict;
+pub use error::UnifyError;
+pub use targets::Scrutinee;
+pub use unifier::Unifier;
