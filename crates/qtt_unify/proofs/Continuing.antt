@@ -12,7 +12,7 @@ use Rattle.qtt_unify.specs.declared.error.UnifyError.{UnifyError}
 use Rattle.qtt_unify.specs.declared.error.UnifyError.TheVariants as error
 use Rattle.qtt_unify.specs.declared.equations.Found as code_found
 use Rattle.qtt_unify.specs.Targets.{readings}
-use Rattle.qtt_unify.specs.Equations.{Found, equation, equations}
+use Rattle.qtt_unify.specs.Equations.{equation, equations}
 use Rattle.qtt_unify.specs.View.{Asks, all_terms, found, Reaches, Refuses}
 use Rattle.qtt_unify.proofs.Within.{onward, within-then}
 

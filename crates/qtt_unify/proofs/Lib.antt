@@ -9,7 +9,9 @@ pub mod Stack
 pub mod Fields
 pub mod Continuing
 pub mod Equated
+pub mod Deleting
 pub mod Collected
 pub mod Judging
 pub mod Walks
 pub mod Families
+pub mod Unified

@@ -1,5 +1,5 @@
 -- Steps of readings inside constructors.
-use Rattle.std.proofs.Common.{◌≡◌, ℕ, zero, suc, ◌+◌, ◌-◌, ◌≤◌, true, false, List, [], ◌∷◌, ◌++◌, length, Option, Some, None, refl, sym, ◌∙◌, ap, arith}
+use Rattle.std.proofs.Common.{◌≡◌, ℕ, zero, suc, ◌-◌, ◌≤◌, true, false, List, [], ◌∷◌, length, Option, Some, None, refl, sym, ◌∙◌, ap, arith}
 use Rattle.qtt_term.specs.declared.term.Term as code
 use Rattle.qtt_term.specs.declared.term.ConId.{ConId}
 use Rattle.qtt_term.specs.Term.{Form, Term, Terms, var, node, ◌▸◌, ◌+++◌}

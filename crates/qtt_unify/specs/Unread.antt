@@ -1,6 +1,6 @@
 -- Indices on the way to their readings: a term that is to be read next, and the constructors around it, some of whose
 -- fields are read.
-use Rattle.std.specs.Prelude.{◌≡◌, ℕ, ◌+◌, ◌<◌, ◌≤◌, List, [], ◌∷◌, ◌++◌, reverse, length, Option, Some, None, true}
+use Rattle.std.specs.Prelude.{◌≡◌, ℕ, ◌+◌, ◌<◌, ◌≤◌, List, [], ◌∷◌, reverse, length, Option, Some, None, true}
 use Rattle.qtt_term.specs.declared.term.Term as code
 use Rattle.qtt_term.specs.declared.term.ConId.{ConId}
 use Rattle.qtt_term.specs.Term.{Form, Term, Terms, node, ◌▸◌, ◌+++◌}

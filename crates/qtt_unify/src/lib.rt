@@ -6,9 +6,8 @@
 //! solved, clashes, is a deletion or is stuck, and one of these alone (`one_of_four`). Worked:
 //! `examples::equations_as_worked`.
 //!
-//! `Unifier::readings` and `Unifier::verdict` answer exactly the questions of a split's targets and
-//! of one constructor, within a budget for each. `solve`, which asks besides whether what is stuck
-//! is a deletion, is not there yet.
+//! `solve` answers a problem exactly, within a budget for each question; `Unifier` answers its
+//! parts, for callers that read a split's targets once and judge many constructors.
 //!
 //! A theory: its lemmas may be cited.
 #![tactic(auto)]
@@ -20,10 +19,12 @@ pub mod laws;
 mod occurrences;
 mod plain;
 mod reading;
+mod solving;
 mod targets;
 mod unifier;
 
 pub use equations::Verdict;
 pub use error::UnifyError;
+pub use solving::{Problem, Solved, solve};
 pub use targets::Scrutinee;
-pub use unifier::Unifier;
+pub use unifier::{Deletion, Unifier};

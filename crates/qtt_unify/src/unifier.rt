@@ -1,20 +1,27 @@
 //! Questions about indices.
 
 ghost use Rattle.std.specs.Prelude.{◌≡◌, ◌+◌, ◌&&◌, IfOk, eqb, length, option_map};
-ghost use Rattle.qtt_term.specs.Term.{same_id};
+ghost use Rattle.qtt_term.specs.Term.{ε, ◌▸◌, same_id};
 ghost use Rattle.qtt_term.specs.Globals.{env as env_of};
 ghost use Rattle.qtt_term.specs.Premises.{head_of, reading_of};
 ghost use Rattle.qtt_term.specs.View.{term};
 ghost use Rattle.qtt_unify.specs.Targets.{readings, unsolvable};
-ghost use Rattle.qtt_unify.specs.View.{all_terms, binders, scrutinee as scrutinee_of, Answers};
+ghost use Rattle.qtt_unify.specs.Deletion.{of_points, deletion};
+ghost use Rattle.qtt_unify.specs.View.{all_terms, binders, scrutinee as scrutinee_of, deletion as deletion_of, Answers};
 
 use crate::error::UnifyError;
 use crate::reading::read;
 use crate::targets::{Scrutinee, is_solvable};
-use qtt_base::{GlobalId, MemoryError};
-use qtt_term::{ConId, Converter, Globals, Head, Question, Term};
+use qtt_base::{GlobalId, MemoryError, ModuleId};
+use qtt_term::{Answer, ConId, Converter, Globals, Head, Question, Term};
 use qtt_usage::mult::Mult;
 use std::alloc::Global;
+
+/// The number of `Eq` among the items of the module `Prim`.
+const EQ: GlobalId = GlobalId {
+    module: ModuleId(0),
+    item: 13,
+};
 
 /// What unification is given: an answerer of questions with its contractions for each, and the
 /// environment.
@@ -24,6 +31,13 @@ pub struct Unifier<'a, C> {
     pub converter: &'a C,
     pub budget: u64,
     pub globals: &'a Globals,
+}
+
+/// A proof that an index equals the point, at this type.
+#[derive(Drop)]
+pub struct Deletion<'a> {
+    pub ty: &'a Term,
+    pub point: &'a Term,
 }
 
 fn same_id(one: GlobalId, other: GlobalId) -> bool
@@ -118,5 +132,54 @@ impl<'a, C: Converter> Unifier<'a, C> {
             }
         }
         Ok(None)
+    }
+
+    /// Whether a proof of `Eq` that is stuck may be deleted: its index and its point compare Equal.
+    #[tactic(auto, unfolding(qtt_term::specs::Ask::within, crate::specs::Deletion::deletion))]
+    pub fn deletion<'t>(
+        &self,
+        family: GlobalId,
+        scrutinee: &Scrutinee<'t>,
+    ) -> Result<Option<Deletion<'t>>, UnifyError>
+        ensures { Answers self.now (deletion tt family (scrutinee_of scrutinee.now))
+            (option_map deletion_of) result }
+    {
+        if !same_id(family, EQ) {
+            return Ok(None);
+        }
+        let params = scrutinee.params;
+        let indices = scrutinee.indices;
+        if params.len() != 2 || indices.len() != 1 {
+            return Ok(None);
+        }
+        self.compared(scrutinee.context, &params[0], &params[1], &indices[0])
+    }
+
+    /// Whether a proof at this type, point and index may be deleted.
+    #[tactic(auto, unfolding(qtt_term::specs::Ask::within, qtt_term::specs::Ask::on_answer))]
+    fn compared<'t>(
+        &self,
+        context: &[(Mult, Term)],
+        ty: &'t Term,
+        point: &'t Term,
+        index: &Term,
+    ) -> Result<Option<Deletion<'t>>, UnifyError>
+        ensures { Answers self.now (of_points tt (length (binders context.now))
+            (term ty.now ▸ term point.now ▸ ε) (term index.now ▸ ε)) (option_map deletion_of)
+            result }
+    {
+        let depth = depth_of(context)?;
+        match self
+            .converter
+            .compare(self.alloc, self.budget, self.globals, index, point)?
+        {
+            Answer::Equal => Ok(Some(Deletion { ty, point })),
+            Answer::Different(_) => Ok(None),
+            Answer::Spent => Err(UnifyError::Spent(Question::Compare(
+                depth,
+                index.copy(self.alloc)?,
+                point.copy(self.alloc)?,
+            ))),
+        }
     }
 }

@@ -1,4 +1,4 @@
-use Rattle.std.proofs.Common.{◌≡◌, ◌-◌, ◌≤◌, ◌<◌, ◌+◌, sym, ap, subst, ◌∙◌, arith}
+use Rattle.std.proofs.Common.{◌≡◌, ◌≤◌, ◌<◌, ◌+◌, sym, ap, subst, ◌∙◌, arith}
 use Rattle.qtt_term.specs.Answers.{head as head_of}
 use Rattle.qtt_term.specs.Globals.{env}
 use Rattle.qtt_term.specs.Question.{Head, head as head_in, weight}
