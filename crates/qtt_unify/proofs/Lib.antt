@@ -1,0 +1,17 @@
+pub mod Endings
+pub mod Verdicts
+pub mod Relation
+pub mod Rows
+pub mod Counted
+pub mod Within
+pub mod Unread
+pub mod Stack
+pub mod Fields
+pub mod Continuing
+pub mod Equated
+pub mod Deleting
+pub mod Collected
+pub mod Judging
+pub mod Walks
+pub mod Families
+pub mod Unified

@@ -1,0 +1,10 @@
+pub mod Targets
+pub mod Equations
+pub mod Deletion
+pub mod Problems
+pub mod Unification
+pub mod Laws
+pub mod Rows
+pub mod Frequency
+pub mod Unread
+pub mod View
