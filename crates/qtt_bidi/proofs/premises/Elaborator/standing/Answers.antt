@@ -9,11 +9,11 @@ use Rattle.qtt_bidi.proofs.premises.Elaborator.standing.Goals as goal
 pub returns-in-Erased-clause-gives : goal.returns-in-Erased-clause-gives
 returns-in-Erased-clause-gives g c =
     standing-erased (entries c.args.self.now.globals.now) c.args.self.now.budget (locals c.args.scope.now) c.args.span
-    (term c.args.stands) (term c.args.ty) (part c.args.sigma) judged_as c.plain.result (ap part c.in-Erased.is) c.requires
-    c.plain.ensures.gives
+    (term c.args.stands) (term c.args.ty) (part c.args.sigma) judged_as c.plain.result (ap part c.in-Erased.is)
+    c.requires c.plain.ensures.gives
 
 pub returns-in-Run-clause-gives : goal.returns-in-Run-clause-gives
 returns-in-Run-clause-gives g c =
     standing-run (entries c.args.self.now.globals.now) c.args.self.now.budget (locals c.args.scope.now) c.args.span
-    (term c.args.stands) (term c.args.ty) (part c.args.sigma) judged_as c.accepted.result (ap part c.in-Run.is) c.requires
-    c.accepted.ensures.gives
+    (term c.args.stands) (term c.args.ty) (part c.args.sigma) judged_as c.accepted.result (ap part c.in-Run.is)
+    c.requires c.accepted.ensures.gives
