@@ -9,10 +9,12 @@
 //! and larger budgets among them, are those of `qtt_confluence::lists`. `examples`: worked
 //! programs, each premise false once, and points where a rule leaves a choice.
 //!
-//! Of the calls that answer the table stand the parts, each exact (`specs/Answers` says what a
-//! call tells: its answer, the premise that is false, or the question that is spent): contexts
-//! with names, what a global name stands for, comparisons, uses of binders, names, texts, and
-//! the results of rules. The judgement of whole expressions is not there yet.
+//! Of the calls that answer the table stand some parts, exact but for want of memory
+//! (`specs/Answers` says what a call tells: its answer, the premise that is false, or the question
+//! that is spent): contexts with names, what a global name stands for, comparisons, uses of
+//! binders, names, texts, and the results of function types, functions, applications and what
+//! takes exactly its arguments. A form that no read text has is answered as want of memory. The
+//! results of `let`, binds and `Type`, and the judgement of whole expressions, are not there yet.
 //!
 //! A theory: its lemmas may be cited.
 #![tactic(auto)]
