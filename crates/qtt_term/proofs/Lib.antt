@@ -1,6 +1,7 @@
 pub mod Subst
 pub mod Closed
 pub mod Facts
+pub mod Giving
 pub mod Same
 pub mod Options
 pub mod Evaluation

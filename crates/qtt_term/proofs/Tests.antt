@@ -1,8 +1,9 @@
 -- The tests beside the conditions of an environment's calls.
-use Rattle.std.proofs.Common.{◌≡◌, ◌↔◌, ℕ, suc, ◌+◌, ◌-◌, ◌<◌, ◌≤◌, ◌^◌, List, [], ◌∷◌, map, length, take, drop, get_or, IsTrue, Bool, true, false, ◌&&◌, not, eqb, leb, refl, sym, ap, ◌∙◌, arith}
+use Rattle.std.proofs.Common.{◌≡◌, ◌↔◌, ℕ, suc, ◌+◌, ◌-◌, ◌<◌, ◌≤◌, ◌^◌, List, [], ◌∷◌, map, length, take, drop, get_or, Option, Some, None, option_map, IsTrue, Bool, true, false, ◌&&◌, not, eqb, leb, refl, sym, ap, ◌∙◌, arith}
 use mathlib.Core.Path.{ap₂}
+use mathlib.Core.Bool.{true≢false}
 use Rattle.std.specs.List.{list_all}
-use Rattle.std.proofs.lemmas.Bool.{and_parts, and_from, eq-eqb, leb-true, le-leb}
+use Rattle.std.proofs.lemmas.Bool.{and_parts, and_from, eq-eqb, eqb-true, leb-true, le-leb}
 use Rattle.std.proofs.lemmas.List.{length-map, length-drop, take_all}
 use Rattle.std.proofs.lemmas.List.Folds.{list_all-map}
 use Rattle.std.proofs.Math.Seq.{drop-cons}
@@ -12,10 +13,11 @@ use Rattle.qtt_term.specs.declared.term.Term as code
 use Rattle.qtt_term.specs.declared.items.Constructor as code_constructor
 use Rattle.qtt_term.specs.declared.items.Family as code_family
 use Rattle.qtt_term.specs.Term.{size, same_id}
-use Rattle.qtt_term.specs.Items.{constructor, constructor_entry, constructor_id, family, family_entry, ids, results_counted}
-use Rattle.qtt_term.specs.Keyed.{ids_differ}
-use Rattle.qtt_term.specs.Globals.{IsNew, CanAdd, is_absent}
+use Rattle.qtt_term.specs.Items.{FamilyEntry, constructor, constructor_entry, constructor_id, family, family_entry, family_id, given_constructors, ids, results_counted}
+use Rattle.qtt_term.specs.Keyed.{with_id, ids_differ}
+use Rattle.qtt_term.specs.Globals.{families, IsNew, CanAdd, CanGive, is_absent}
 use Rattle.qtt_term.specs.View.{term, terms, side_by_side}
+use Rattle.qtt_term.proofs.Options.{some-injective}
 
 -- two tests that are true together are the same
 pub tests_agree : (a b : Bool) → IsTrue a ↔ IsTrue b → a ≡ b
@@ -139,3 +141,74 @@ can_add g F few new_ids counted ef en ec = (to, from)
     from : CanAdd g F → IsTrue (few && (new_ids && counted))
     from h = and_from few (new_ids && counted) (ef.1 h.count)
         (and_from new_ids counted (en.1 h.new_ids) (ec ∙ sym (all-counted F) ∙ h.counted))
+
+-- ---- constructors that a family is given
+given-sizes : (cs : List code_constructor.Constructor) (n : ℕ) →
+    list_all (λ c. eqb (size c.results) n) (map (λ c. c.constructor) (map constructor_entry cs)) ≡
+    list_all (λ c. eqb (length c.result.items) n) cs
+given-sizes [] n = refl
+given-sizes (c ∷ cs) n =
+    ap₂ (λ a b. a && b) (ap (λ k. eqb k n) (size-seen c.result.items)) (given-sizes cs n)
+
+-- whether a family has no constructors
+none-are : (cs : List code_constructor.Constructor) → IsTrue (eqb (length cs) 0) ↔
+    (Some (map constructor_entry cs) ≡ Some [])
+none-are [] = (λ h. refl, λ h. refl)
+none-are (c ∷ cs) =
+    (λ h. absurd (not_empty (length cs) (eqb-true (suc (length cs)) 0 h)), λ h. absurd (no_list (some-injective h)))
+  where
+    not_empty : (n : ℕ) → suc n ≡ 0 → ⊥
+    not_empty n e = omega (arith, e)
+
+    no_list : {X : Type 0} {x : X} {xs : List X} → x ∷ xs ≡ [] → ⊥
+    no_list e = cc e
+
+-- the tests together, where a family of this id was found
+pub can_give : (g : Globals) (f : GlobalId) (cs : List code_constructor.Constructor) (F : code_family.Family)
+    (bare few differ absent counted : Bool) → with_id family_id f (families g) ≡ Some (family_entry F) →
+    bare ≡ eqb (length F.constructors.items) 0 →
+    (IsTrue few ↔ (length cs < 2 ^ 32)) →
+    differ ≡ ids_differ (map (λ c. c.id) cs) →
+    absent ≡ list_all (λ c. is_absent g c.id) cs →
+    counted ≡ list_all (λ c. eqb (length c.result.items) (length F.indices.items)) cs →
+    IsTrue (bare && (few && (differ && (absent && counted)))) ↔ CanGive g f cs
+can_give g f cs F b w d n k there eb ew ed en ek = (to, from)
+  where
+    its_counted : Option FamilyEntry → Bool
+    its_counted o = elim o [
+      | None ↦ true
+      | Some G ↦ results_counted (given_constructors (map constructor_entry cs) G).family
+    ]
+
+    counts : k ≡ its_counted (with_id family_id f (families g))
+    counts =
+        ek ∙ sym (ap (λ m. list_all (λ c. eqb (length c.result.items) m) cs) (length-map F.indices.items term))
+        ∙ sym (given-sizes cs (length (terms F.indices.items))) ∙ sym (ap its_counted there)
+
+    to : IsTrue (b && (w && (d && (n && k)))) → CanGive g f cs
+    to h =
+        let p = and_parts b (w && (d && (n && k))) h in
+        let q = and_parts w (d && (n && k)) p.1 in
+        let r = and_parts d (n && k) q.1 in
+        let s = and_parts n k r.1 in
+        record {
+          bare = ap (option_map (λ G. G.constructors)) there ∙ (none-are F.constructors.items).0 (sym eb ∙ p.0);
+          count = ew.0 q.0;
+          differ = ap ids_differ (own-ids cs) ∙ sym ed ∙ r.0;
+          absent = sym en ∙ s.0;
+          counted = sym counts ∙ s.1;
+        }
+
+    from : CanGive g f cs → IsTrue (b && (w && (d && (n && k))))
+    from h =
+        and_from b (w && (d && (n && k)))
+        (eb ∙ (none-are F.constructors.items).1 (sym (ap (option_map (λ G. G.constructors)) there) ∙ h.bare))
+        (and_from w (d && (n && k)) (ew.1 h.count)
+        (and_from d (n && k) (ed ∙ sym (ap ids_differ (own-ids cs)) ∙ h.differ)
+        (and_from n k (en ∙ h.absent) (counts ∙ h.counted))))
+
+-- and where there is none
+pub cannot_give : (g : Globals) (f : GlobalId) (cs : List code_constructor.Constructor) →
+    with_id family_id f (families g) ≡ None → IsTrue false ↔ CanGive g f cs
+cannot_give g f cs none =
+    (λ h. absurd (true≢false (sym h)), λ h. absurd (cc (sym (ap (option_map (λ G. G.constructors)) none) ∙ h.bare)))

@@ -8,10 +8,11 @@ use Rattle.qtt_term.specs.Contraction.{BodiesClosed}
 use Rattle.qtt_term.specs.Environment.{ResultsCounted}
 use Rattle.qtt_term.specs.Globals.{families, definitions, env}
 use Rattle.qtt_term.specs.Keyed.{ascends, with_id, inserted, all_inserted}
-use Rattle.qtt_term.specs.Items.{FamilyEntry, DefinitionEntry, family_id, definition_id, given_body, with_body}
+use Rattle.qtt_term.specs.Items.{ConstructorEntry, FamilyEntry, DefinitionEntry, family_id, definition_id, given_constructors, with_constructors, given_body, with_body}
 
 -- one more item is found by its id, and the others as before; items that share no id with the others are found by
--- theirs; and a body is that of its definition alone
+-- theirs; a family that is given its constructors is as if it had been added with them; and a body is that of its
+-- definition alone
 pub record EnvironmentsGrow : Type 0 where
   pub family : (F : FamilyEntry) (Fs : List FamilyEntry) → with_id family_id F.id Fs ≡ None → (f : GlobalId) →
       with_id family_id f (inserted family_id F Fs) ≡ cond (same_id F.id f) (Some F) (with_id family_id f Fs)
@@ -27,6 +28,9 @@ pub record EnvironmentsGrow : Type 0 where
       ((id : GlobalId) → (with_id definition_id id Es ≡ None) ⊎ (with_id definition_id id Ds ≡ None)) →
       (d : GlobalId) → with_id definition_id d (all_inserted definition_id Ds Es) ≡ either
       (with_id definition_id d Ds) (with_id definition_id d Es)
+  pub constructors : (F : FamilyEntry) (cs : List ConstructorEntry) (Fs : List FamilyEntry) →
+      with_id family_id F.id Fs ≡ None →
+      with_constructors F.id cs (inserted family_id F Fs) ≡ inserted family_id (given_constructors cs F) Fs
   pub body : (i : GlobalId) (b : Term) (Ds : List DefinitionEntry) (d : GlobalId) →
       with_id definition_id d (with_body i b Ds) ≡ option_map (λ D. cond (same_id D.id i) (given_body b D) D)
       (with_id definition_id d Ds)

@@ -93,6 +93,24 @@ given_body b d = record {
 abbrev pub with_body : GlobalId → Term → List DefinitionEntry → List DefinitionEntry
 with_body i b = map (λ d. cond (same_id d.id i) (given_body b d) d)
 
+-- the same with these constructors
+abbrev pub given_constructors : List ConstructorEntry → FamilyEntry → FamilyEntry
+given_constructors cs F = record {
+  id = F.id;
+  name = F.name;
+  family = record {
+    params = F.family.params;
+    indices = F.family.indices;
+    level = F.family.level;
+    constructors = map (λ c. c.constructor) cs;
+  };
+  constructors = cs;
+}
+
+-- the family of this id with these constructors
+abbrev pub with_constructors : GlobalId → List ConstructorEntry → List FamilyEntry → List FamilyEntry
+with_constructors f cs = map (λ F. cond (same_id F.id f) (given_constructors cs F) F)
+
 -- ---- constructors by their ids
 -- the constructor of this id among those of family f from place n on
 abbrev pub constructor_from : GlobalId → ℕ → List ConstructorEntry → GlobalId → Option ConId

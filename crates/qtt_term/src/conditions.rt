@@ -2,7 +2,7 @@
 
 ghost use Rattle.std.specs.Prelude.{◌≡◌, ◌↔◌, IsTrue, map, not, eqb, length};
 ghost use Rattle.std.specs.List.{list_all};
-ghost use Rattle.qtt_term.specs.Globals.{IsAbsent, IsOpen, IsNew, CanAdd, is_absent};
+ghost use Rattle.qtt_term.specs.Globals.{IsAbsent, IsOpen, IsNew, CanAdd, CanGive, is_absent};
 ghost use Rattle.qtt_term.specs.Items.{family_entry};
 ghost use Rattle.qtt_term.specs.Keyed.{ids_differ};
 ghost use Rattle.qtt_term.specs.Term.{same_id};
@@ -37,6 +37,23 @@ impl Globals {
         let new_ids = self.has_no_ids_of(family);
         let counted = are_counted(&family.constructors, family.indices.len());
         few & (new_ids & counted)
+    }
+
+    /// Whether these constructors may be given to the family of this id.
+    pub fn can_give(&self, family: GlobalId, constructors: &[Constructor]) -> bool
+        ensures { IsTrue result ↔ CanGive self.now family constructors.now }
+    {
+        match self.family(family) {
+            Some(found) => {
+                let bare = found.constructors.len() == 0;
+                let few = constructors.len() <= u32::MAX as usize;
+                let differ = are_different(constructors);
+                let absent = are_absent(self, constructors);
+                let counted = are_counted(constructors, found.indices.len());
+                bare & (few & (differ & (absent & counted)))
+            }
+            None => false,
+        }
     }
 
     /// Whether the ids of a family and its constructors differ, are of one module, and are

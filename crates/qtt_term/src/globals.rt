@@ -7,7 +7,7 @@ ghost use Rattle.qtt_term.specs.Keyed.{ascends, is_of};
 ghost use Rattle.qtt_term.specs.Items.{constructor_entry, family_entry, definition_entry, family_id, definition_id, constructor_of, constructors_differ as differ, all_bodies_closed, all_results_counted};
 ghost use Rattle.qtt_term.specs.Places.{place_id, place_of, places_from};
 
-use crate::items::{Definition, Family};
+use crate::items::{Constructor, Definition, Family};
 use crate::keyed::{Keyed, find, place, place_all, search};
 use crate::prim_items::{bool_family, eq_family, line_family, unit_family};
 use crate::term::{ConId, Term};
@@ -69,8 +69,8 @@ impl Keyed for Place {
 impl Globals {
     ghost use Rattle.std.specs.Prelude.{[], Some, None, IsOk, OnOk, OnErr, IfSome, IfNone, option_map, slice_get, ◌⊎◌};
     ghost use Rattle.qtt_term.specs.Keyed.{with_id, inserted, all_inserted};
-    ghost use Rattle.qtt_term.specs.Items.{family as family_of, definition as definition_of, results_counted, signature_entry, with_body};
-    ghost use Rattle.qtt_term.specs.Globals.{families as families_of, definitions as definitions_of, env, IsNew, IsAbsent, IsOpen};
+    ghost use Rattle.qtt_term.specs.Items.{family as family_of, definition as definition_of, results_counted, signature_entry, with_constructors, with_body};
+    ghost use Rattle.qtt_term.specs.Globals.{families as families_of, definitions as definitions_of, env, IsNew, CanGive, IsAbsent, IsOpen};
     ghost use Rattle.qtt_term.specs.PrimItems.{prim_families};
     ghost use Rattle.qtt_term.specs.PrimEnvironment.{prim_env};
     ghost use Rattle.qtt_term.specs.Substitution.{Closed};
@@ -111,11 +111,35 @@ impl Globals {
         ensures err { OnErr result (families_of self.new ≡ families_of self.old) }
         ensures definitions { definitions_of self.new ≡ definitions_of self.old }
     {
-        let places = places_of(alloc, &family)?;
+        let places = places_of(alloc, family.id, &family.constructors)?;
         self.places.reserve(places.len())?;
         self.families.reserve(1)?;
         place_all(&mut self.places, places);
         place(&mut self.families, family);
+        Ok(())
+    }
+
+    /// Gives these constructors to a family that has none. They are numbered by a `u32`.
+    pub fn set_constructors(
+        &mut self,
+        alloc: Global,
+        family: GlobalId,
+        constructors: Vec<Constructor>,
+    ) -> Result<(), MemoryError>
+        requires { CanGive self.old family constructors.items }
+        ensures ok { OnOk result (families_of self.new ≡ with_constructors family
+            (map constructor_entry constructors.items) (families_of self.old)) }
+        ensures err { OnErr result (families_of self.new ≡ families_of self.old) }
+        ensures definitions { definitions_of self.new ≡ definitions_of self.old }
+    {
+        let at = match search(&self.families, family) {
+            Ok(at) => at,
+            Err(_) => unreachable!(),
+        };
+        let places = places_of(alloc, family, &constructors)?;
+        self.places.reserve(places.len())?;
+        place_all(&mut self.places, places);
+        self.families[at].constructors = constructors;
         Ok(())
     }
 
@@ -341,17 +365,21 @@ fn copied_places(
 }
 
 /// Where the constructors of a family stand.
-fn places_of(alloc: Global, family: &Family) -> Result<Vec<Place>, MemoryError>
-    requires { length family.now.constructors.items < 2 ^ 32 }
-    ensures { IfOk result (λ v. v.items ≡ places_from family.now.id 0
-        (map constructor_entry family.now.constructors.items)) }
+fn places_of(
+    alloc: Global,
+    family: GlobalId,
+    constructors: &[Constructor],
+) -> Result<Vec<Place>, MemoryError>
+    requires { length constructors.now < 2 ^ 32 }
+    ensures { IfOk result (λ v. v.items ≡ places_from family 0
+        (map constructor_entry constructors.now)) }
 {
-    let mut places = Vec::with_capacity(alloc, family.constructors.len())?;
-    for (place, constructor) in family.constructors.iter().enumerate() {
+    let mut places = Vec::with_capacity(alloc, constructors.len())?;
+    for (place, constructor) in constructors.iter().enumerate() {
         places.push(Place {
             id: constructor.id,
             con: ConId {
-                family: family.id,
+                family,
                 place: place as u32,
             },
         })?;

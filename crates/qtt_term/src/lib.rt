@@ -2,9 +2,9 @@
 //!
 //! `Term::copy`, `same`, `shift`, `subst` and `fill` are their definitions, and every literal
 //! of a term of the code is in the range of 64 bits (`Term::literals_in_range`). `Globals`,
-//! with `prim`, `add_family`, `add_signature`, `set_body`, its look-ups, `copy`, `part` and
-//! `adopt`, keeps ids, names, order and contents exactly, and a refused growth changes nothing;
-//! in every environment bodies are closed and results counted
+//! with `prim`, `add_family`, `set_constructors`, `add_signature`, `set_body`, its look-ups,
+//! `copy`, `part` and `adopt`, keeps ids, names, order and contents exactly, and a refused growth
+//! changes nothing; in every environment bodies are closed and results counted
 //! (`laws::globals_keep_their_facts`). Beside each condition stands its test, and
 //! `Globals::is_in_shape` tells whether the environment and all its items are in shape.
 //!

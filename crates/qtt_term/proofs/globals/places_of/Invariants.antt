@@ -4,5 +4,5 @@ use Rattle.qtt_term.specs.Places.{places_from}
 use Rattle.qtt_term.proofs.globals.places_of.Given as goal
 
 abbrev pub invariant-loop-place : goal.invariant-loop-place
-invariant-loop-place l = l.places.items ≡ places_from l.family.id 0
-    (map constructor_entry (take l.place l.family.constructors.items))
+invariant-loop-place l = l.places.items ≡ places_from l.family 0
+    (map constructor_entry (take l.place l.constructors))

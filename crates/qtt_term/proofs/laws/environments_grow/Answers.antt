@@ -1,6 +1,7 @@
 use Rattle.std.proofs.Common.{refl}
 use Rattle.qtt_term.specs.Items.{family_id, definition_id, given_body}
 use Rattle.qtt_term.proofs.Order.{with_id-inserted, with_id-all_inserted, with_id-changed, disjoint-insert}
+use Rattle.qtt_term.proofs.Giving.{given-inserted}
 use Rattle.qtt_term.proofs.laws.environments_grow.Goals as goal
 
 pub returns : goal.returns
@@ -10,5 +11,6 @@ returns c = record {
   families = λ Fs Gs up apart f. with_id-all_inserted family_id Fs Gs f (disjoint-insert family_id Fs Gs up apart);
   definitions = λ Ds Es up apart d. with_id-all_inserted definition_id Ds Es d
       (disjoint-insert definition_id Ds Es up apart);
+  constructors = given-inserted;
   body = λ i b Ds d. with_id-changed definition_id i (given_body b) d Ds (λ D. refl);
 }

@@ -77,7 +77,9 @@ pub place_all-requires-clause-new_ids : goal.place_all-requires-clause-new_ids
 place_all-requires-clause-new_ids c =
     let g = c.args.self.now in
     let F = family_entry c.args.family in
-    subst (λ ps. CanInsertAll place_id ps c.reserve.new.self.items) (sym c.in_ok-places.ensures)
+    subst (λ ps. CanInsertAll place_id ps c.reserve.new.self.items)
+    (sym (c.in_ok-places.ensures ∙ ap (λ ds. places_from c.args.family.id 0 (map constructor_entry ds))
+    c.deref.ensures.value))
     (subst (CanInsertAll place_id (places_from F.id 0 F.constructors)) (sym c.reserve.ensures.items)
     (places_can g F c.requires.new_ids g.places.items g.places_are))
 
@@ -104,7 +106,10 @@ placed : (c : goal.After-place) →
     (places_from c.args.family.id 0 (map constructor_entry c.args.family.constructors.items))
     c.args.self.now.places.items
 placed c =
-    c.place_all.ensures ∙ ap (λ ps. all_inserted place_id ps c.reserve.new.self.items) c.in_ok-places.ensures
+    c.place_all.ensures
+    ∙ ap (λ ps. all_inserted place_id ps c.reserve.new.self.items)
+    (c.in_ok-places.ensures ∙ ap (λ ds. places_from c.args.family.id 0 (map constructor_entry ds))
+    c.deref.ensures.value)
     ∙ ap (all_inserted place_id
     (places_from c.args.family.id 0 (map constructor_entry c.args.family.constructors.items)))
     c.reserve.ensures.items
