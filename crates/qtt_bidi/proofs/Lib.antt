@@ -12,3 +12,12 @@ pub mod Accepted
 pub mod Fitting
 pub mod Parted
 pub mod Seeing
+pub mod Weights
+pub mod Looked
+pub mod Meant
+pub mod Filling
+pub mod Taking
+pub mod Following
+pub mod Growing
+pub mod Holeless
+pub mod Sparing

@@ -50,6 +50,11 @@ abbrev pub Refuses : Env → ℕ → {A : Type 0} → Asks A → ElabError → T
 Refuses E n m (error.Refused d s r k) = Tells E n m (at s r k) (kept d)
 Refuses E n m error.Memory = Unit {0}
 
+-- a refusal that tells this premise at this place; want of memory says nothing
+abbrev pub Told : Cause → Place → ElabError → Type 0
+Told c p (error.Refused d s r k) = (kept d ≡ Kept.premise c) × (at s r k ≡ p)
+Told c p error.Memory = Unit {0}
+
 -- a call answers as the list of questions ends
 abbrev pub Gives : Env → ℕ → {A X : Type 0} → Asks A → (X → A) → Result X ElabError → Type 0
 Gives E n m view result = MatchResult result (λ x. Reaches E n m (view x)) (λ e. Refuses E n m e)

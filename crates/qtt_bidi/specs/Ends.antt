@@ -4,7 +4,7 @@ use Rattle.qtt_base.specs.declared.place.Span.{Span}
 use Rattle.qtt_usage.specs.declared.mult.Mult.{Mult}
 use Rattle.qtt_usage.specs.Usage.{usage_sum, usage_scale}
 use Rattle.qtt_syntax.specs.declared.expr.Local.{Local}
-use Rattle.qtt_syntax.specs.Tree.{Tree, Binder, Argument, Arguments, Statements}
+use Rattle.qtt_syntax.specs.Tree.{Tree, Annotation, Binder, Argument, Arguments, Statements}
 use Rattle.qtt_syntax.specs.Tree.Argument.{argument}
 use Rattle.qtt_syntax.specs.Tree.Statements.{no_statement, statement_and}
 use Rattle.qtt_term.specs.declared.rule.Rule.TheVariants as rule
@@ -12,7 +12,7 @@ use Rattle.qtt_term.specs.Term as core
 use Rattle.qtt_term.specs.Term.{Term, var, node, ε, ◌▸◌, Pi, Lam, App, Act}
 use Rattle.qtt_term.specs.Substitution.{inst}
 use Rattle.qtt_term.specs.Signature.{mult_of}
-use Rattle.qtt_term.specs.Judgement.{Part}
+use Rattle.qtt_term.specs.Judgement.{Part, under}
 use Rattle.qtt_term.specs.Ask.{Ask, ◌>>=◌, asked_at}
 use Rattle.qtt_term.specs.Infer.{infer}
 use Rattle.qtt_term.specs.Entries.{Entries, env}
@@ -21,7 +21,7 @@ use Rattle.qtt_rules.specs.Refusal.{Cause, at}
 use Rattle.qtt_rules.specs.Asks.{Asks, refuse}
 use Rattle.qtt_rules.specs.Judged.{Judged, judged, Mode}
 use Rattle.qtt_bidi.specs.Premises.{Action, fit}
-use Rattle.qtt_bidi.specs.Elaboration.{Written, binder_name, binder_place, let_type, bound_name, bound_place, statement_place, argument_count, arguments}
+use Rattle.qtt_bidi.specs.Elaboration.{Written, binder_name, binder_place, let_type, bound_name, bound_place, statement_place, argument_count, arguments, place, judge, valued, let_row, bind_row, statements}
 
 -- no variable
 abbrev pub IsForm : Term → Type 0
@@ -77,3 +77,15 @@ written G p S es = record { count = argument_count es; checked = λ Θ σ. argum
 abbrev pub list_place : Statements → Span
 list_place no_statement = record { line = 0; col = 0; len = 0 }
 list_place (statement_and t ss) = statement_place t
+
+-- ---- rows over what follows
+-- a `let` over the statements after it
+abbrev pub let_then : Entries → Part → Scope → Mode → Mult → Local → Annotation → Tree → Statements → Asks Judged
+let_then G p S m q x A e ss =
+    let_row p S m q x (valued G S A (λ n. judge G (under p q) S n e))
+    (λ T n. statements G p T n (list_place ss) ss)
+
+-- an action, with the name that it binds, and the statements after it, the first of them at s
+abbrev pub bind_then : Entries → Part → Scope → Mode → Span → Option Local → Tree → Statements → Asks Judged
+bind_then G p S m s x e ss =
+    bind_row p S m s (place e) x (judge G p S Mode.synth e) (λ T n. statements G p T n (list_place ss) ss)

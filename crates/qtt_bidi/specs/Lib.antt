@@ -13,3 +13,6 @@ pub mod Listed
 pub mod Ends
 pub mod Made
 pub mod Elaborated
+pub mod Parts
+pub mod Growth
+pub mod Holes

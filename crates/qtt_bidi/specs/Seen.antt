@@ -16,6 +16,7 @@ use Rattle.qtt_term.specs.Scope.{Scope, with_var, with_name, scope_of}
 use Rattle.qtt_term.specs.Forms.{Function}
 use Rattle.qtt_usage.specs.Mult.{fits}
 use Rattle.qtt_term.specs.Judgement.{Part}
+use Rattle.qtt_rules.specs.Refusal.{Cause}
 use Rattle.qtt_rules.specs.Judged.{Judged, judged, Mode}
 use Rattle.qtt_bidi.specs.Elaboration.{Classified}
 use Rattle.qtt_bidi.specs.Premises.{Action}
@@ -25,6 +26,8 @@ use Rattle.qtt_bidi.specs.declared.judged.Judged as code_judged
 use Rattle.qtt_bidi.specs.declared.judged.Classified as code_classified
 use Rattle.qtt_bidi.specs.declared.judged.FunctionType.{FunctionType}
 use Rattle.qtt_bidi.specs.declared.judged.ActionType.{ActionType}
+use Rattle.qtt_bidi.specs.declared.type_heads.HeadForm.{HeadForm}
+use Rattle.qtt_bidi.specs.declared.type_heads.HeadForm.TheVariants as head_form
 use Rattle.qtt_bidi.specs.declared.scope.Scope as code_scope
 use Rattle.qtt_bidi.specs.declared.scope.Scope.TheVariants as scope
 
@@ -56,6 +59,13 @@ function f = record { mult = f.mult; domain = term f.domain; codomain = term f.c
 
 abbrev pub action_as : ActionType → Action
 action_as a = record { io = io a.kind; result = term a.result }
+
+-- what is kept of a type whose head has not the form that is looked for
+abbrev pub other_form : HeadForm → ℕ → Term → Cause
+other_form head_form.Sort = Cause.not_a_type
+other_form head_form.Function = Cause.not_a_function
+other_form head_form.Family = Cause.not_a_family
+other_form head_form.Action = Cause.not_an_action
 
 -- a use fits a multiplicity, in the run part
 abbrev pub fitting : Part → Mult → Mult → Bool

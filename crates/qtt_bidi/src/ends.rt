@@ -8,12 +8,12 @@ ghost use Rattle.qtt_term.specs.View.{term, io, action as action_of};
 ghost use Rattle.qtt_rules.specs.Judged.{judged as as_judged};
 ghost use Rattle.qtt_rules.specs.declared.errors.ElabError.TheVariants.{Memory};
 ghost use Rattle.qtt_bidi.specs.Calls.{Answers, Counted};
-ghost use Rattle.qtt_bidi.specs.Elaboration.{unused, bound_place as place_of_bound};
-ghost use Rattle.qtt_bidi.specs.Ends.{applied_to, found_lambda as lambda_found, checked_lambda as lambda_checked, bind_term};
-ghost use Rattle.qtt_bidi.specs.Seen.{locals, judged_as, action_as};
+ghost use Rattle.qtt_bidi.specs.Elaboration.{unused, bound_place as place_of_bound, let_type as type_of_let};
+ghost use Rattle.qtt_bidi.specs.Ends.{applied_to, found_lambda as lambda_found, checked_lambda as lambda_checked, let_ends, bind_ends, bind_term};
+ghost use Rattle.qtt_bidi.specs.Seen.{locals, mode_of, judged_as, action_as};
 ghost use Rattle.qtt_syntax.specs.View.{binder_of};
 
-use crate::judged::{ActionType, Classified, Judged};
+use crate::judged::{ActionType, Classified, Judged, Mode};
 use crate::places::{binder_name, binder_place};
 use crate::premises::Elaborator;
 use crate::scope::Scope;
@@ -47,13 +47,30 @@ fn bind_between(from: IoKind, to: IoKind) -> ActKind
 }
 
 /// Where a name that a statement binds is told, or else the statement's expression.
-fn bound_place(name: Option<&Local>, expression: Span) -> Span
+pub fn bound_place(name: Option<&Local>, expression: Span) -> Span
     ensures { result ≡ place_of_bound (option_map (λ x. x.now) name.entry) expression }
 {
     match name {
         Some(name) => name.span,
         None => expression,
     }
+}
+
+/// The name that a `let` binds, and its multiplicity.
+#[derive(Clone, Copy, Debug)]
+pub struct Binding<'a> {
+    pub mult: Mult,
+    pub name: &'a Local,
+}
+
+/// An action of a `do`: the name that it binds, the first token of its expression, its type, and
+/// that of the block.
+#[derive(Drop)]
+pub struct Step<'a> {
+    pub name: Option<&'a Local>,
+    pub place: Span,
+    pub found: ActionType,
+    pub wanted: ActionType,
 }
 
 impl<'a, C: Converter> Elaborator<'a, C> {
@@ -172,11 +189,77 @@ impl<'a, C: Converter> Elaborator<'a, C> {
         let arguments = vec![in self.alloc; action, next]?;
         Ok(Term::Act(kind, types, arguments))
     }
-}
 
-/// The name that a `let` binds, and its multiplicity.
-#[derive(Clone, Copy, Debug)]
-pub struct Binding<'a> {
-    pub mult: Mult,
-    pub name: &'a Local,
+    /// The last premise and the result of the rule of `let`.
+    pub fn let_end(
+        &self,
+        sigma: Sigma,
+        mode: Mode,
+        binding: Binding<'_>,
+        value: Judged,
+        body: Judged,
+    ) -> Result<Judged, ElabError>
+        requires { length value.uses + 1 ≡ length body.uses }
+        ensures gives { Answers self.now
+            (let_ends (part sigma) (mode_of mode) binding.entry.mult binding.entry.name.now
+            (judged_as value) (judged_as body)) judged_as result }
+        ensures len { IfOk result (λ j. length j.uses ≡ length value.uses) }
+    {
+        let Binding { mult, name } = binding;
+        let uses = self.fitting(sigma, Some(name), mult, body.uses, name.span, Rule::Let, 4)?;
+        let ty = self.let_type(mode, body.ty, &value.core)?;
+        let function = Term::lam(self.alloc, mult, value.ty, body.core)?;
+        let core = Term::app(self.alloc, mult, function, value.core)?;
+        let mut value_uses = value.uses;
+        value_uses.scale(mult);
+        let mut uses = uses;
+        uses.add(&value_uses);
+        Ok(Judged { ty, core, uses })
+    }
+
+    /// The type of a `let`: where it is found, the body's with the value in it.
+    fn let_type(&self, mode: Mode, body: Term, value: &Term) -> Result<Term, ElabError>
+        ensures { MatchResult result
+            (λ t. term t ≡ type_of_let (mode_of mode) (term body) (term value.now))
+            (λ e. e ≡ Memory) }
+    {
+        match mode {
+            Mode::Synth => {
+                let values = [value.copy(self.alloc)?];
+                Ok(body.subst(self.alloc, &values)?)
+            }
+            Mode::Check(ty) => Ok(ty),
+        }
+    }
+
+    /// The last premise and the result of the rule of binds.
+    pub fn bind_end(
+        &self,
+        sigma: Sigma,
+        step: Step<'_>,
+        action: Judged,
+        ty: Term,
+        rest: Judged,
+    ) -> Result<Judged, ElabError>
+        requires { length action.uses + 1 ≡ length rest.uses }
+        ensures gives { Answers self.now
+            (bind_ends (part sigma) (option_map (λ x. x.now) step.entry.name) step.entry.place
+            (action_as step.entry.found) (action_as step.entry.wanted) (judged_as action) (term ty)
+            (judged_as rest)) judged_as result }
+        ensures len { IfOk result (λ j. length j.uses ≡ length action.uses) }
+    {
+        let Step {
+            name,
+            place,
+            found,
+            wanted,
+        } = step;
+        let mult = mult_after(found.kind);
+        let span = bound_place(name, place);
+        let more = self.fitting(sigma, name, mult, rest.uses, span, Rule::DoBind, 6)?;
+        let core = self.bind_core(found, wanted, action.core, rest.core)?;
+        let mut uses = action.uses;
+        uses.add(&more);
+        Ok(Judged { ty, core, uses })
+    }
 }

@@ -1,7 +1,8 @@
 //! Expressions without parts: names, literals and universes.
 
 ghost use Rattle.std.specs.Prelude.{◌≡◌, length, slice_get, IfOk, IfErr, MatchOption, MatchResult};
-ghost use Rattle.qtt_syntax.specs.Tree.Tree.{text as text_tree};
+ghost use Rattle.qtt_base.specs.declared.place.Span.{Span as Place};
+ghost use Rattle.qtt_syntax.specs.Tree.Tree.{number as number_tree, text as text_tree, universe as universe_tree};
 ghost use Rattle.qtt_term.specs.Entries.{env};
 ghost use Rattle.qtt_term.specs.Signature.{definition_at};
 ghost use Rattle.qtt_term.specs.Contexts.{part};
@@ -95,6 +96,25 @@ impl<'a, C: Converter> Elaborator<'a, C> {
             Some(variable) => self.variable(scope, sigma, span, variable, ty),
             None => self.standing(scope, sigma, span, stands, ty),
         }
+    }
+
+    /// A local name, where a type is found or one is given.
+    pub fn local_name(
+        &self,
+        scope: &Scope<'_>,
+        sigma: Sigma,
+        mode: Mode,
+        span: Span,
+        index: u32,
+    ) -> Result<Judged, ElabError>
+        ensures gives { Answers self.now
+            (switched (locals scope.now) (mode_of mode) span
+            (asks_local (entries_of self.now) (part sigma) (locals scope.now) span
+            (slice_get (locals scope.now).names index))) judged_as result }
+        ensures len { IfOk result (λ j. Counted scope.now j.uses) }
+    {
+        let found = self.local_row(scope, sigma, span, index)?;
+        self.switch(scope, mode, span, found)
     }
 
     /// A name that stands for a variable.
@@ -199,6 +219,42 @@ impl<'a, C: Converter> Elaborator<'a, C> {
         self.switch(scope, mode, span, found)
     }
 
+    /// The rule of numbers.
+    pub fn number_row(
+        &self,
+        scope: &Scope<'_>,
+        mode: Mode,
+        value: i64,
+        span: Span,
+    ) -> Result<Judged, ElabError>
+        ensures gives { (p : Part) → Judges self.now p scope.now (mode_of mode)
+            (number_tree value span) result }
+        ensures len { IfOk result (λ j. Counted scope.now j.uses) }
+    {
+        self.plain_row(scope, mode, span, Term::IntTy, Term::Lit(Lit::Int(value)))
+    }
+
+    /// The rule of universes. What was read has a small level.
+    pub fn universe_row(
+        &self,
+        scope: &Scope<'_>,
+        mode: Mode,
+        level: u64,
+        span: Span,
+    ) -> Result<Judged, ElabError>
+        ensures gives { (p : Part) (s : Place) → Judges self.now p scope.now (mode_of mode)
+            (universe_tree level s span) result }
+        ensures len { IfOk result (λ j. Counted scope.now j.uses) }
+    {
+        let Ok(level) = u32::try_from(level) else {
+            return Err(ElabError::Memory);
+        };
+        let Some(above) = level.checked_add(1) else {
+            return Err(ElabError::Memory);
+        };
+        self.plain_row(scope, mode, span, Term::Sort(above), Term::Sort(level))
+    }
+
     /// The rule of texts. What was read is UTF-8.
     pub fn text_row(
         &self,
@@ -259,6 +315,25 @@ impl<'a, C: Converter> Elaborator<'a, C> {
             return Err(ElabError::Refused(kept, span, Rule::Global, 1));
         }
         self.plain(scope, declared.ty, core)
+    }
+
+    /// A definition's name, where a type is found or one is given.
+    pub fn definition_name(
+        &self,
+        scope: &Scope<'_>,
+        sigma: Sigma,
+        mode: Mode,
+        span: Span,
+        id: GlobalId,
+    ) -> Result<Judged, ElabError>
+        ensures gives { Answers self.now
+            (switched (locals scope.now) (mode_of mode) span
+            (asks_definition (entries_of self.now) (part sigma) (locals scope.now) span id))
+            judged_as result }
+        ensures len { IfOk result (λ j. Counted scope.now j.uses) }
+    {
+        let found = self.definition_row(scope, sigma, span, id)?;
+        self.switch(scope, mode, span, found)
     }
 }
 

@@ -1,12 +1,13 @@
 //! First tokens of expressions and of their parts.
 
 ghost use Rattle.std.specs.Prelude.{◌≡◌, map};
-ghost use Rattle.qtt_syntax.specs.Tree.{binders as binder_list};
-ghost use Rattle.qtt_syntax.specs.View.{tree_of, binder_of, statement_of};
+ghost use Rattle.qtt_syntax.specs.Tree.{binders as binder_list, statements as statement_list};
+ghost use Rattle.qtt_syntax.specs.View.{tree_of, argument_of, binder_of, statement_of};
+ghost use Rattle.qtt_bidi.specs.Ends.{expression as expression_of, list_place};
 ghost use Rattle.qtt_bidi.specs.Elaboration.{place, statement_place as place_of_statement, binder_name as name_of_binder, binder_place as place_of_binder, all_typed as are_typed, is_typed as has_type};
 
 use qtt_base::Span;
-use qtt_syntax::{Binder, Expr, Local, Statement};
+use qtt_syntax::{Argument, Binder, Expr, Local, Statement};
 
 /// The first token of an expression.
 #[tactic(auto, using(qtt_syntax::proofs::Rows::rows))]
@@ -60,6 +61,7 @@ fn is_typed(binder: &Binder) -> bool
     }
 }
 
+/// The name that a binder binds.
 #[tactic(auto, using(qtt_syntax::proofs::Rows::rows))]
 pub fn binder_name(binder: &Binder) -> &Local
     ensures { result.now ≡ name_of_binder (binder_of binder.now) }
@@ -78,5 +80,31 @@ pub fn binder_place(binder: &Binder) -> Span
     match binder {
         Binder::Plain(name) => name.span,
         Binder::Typed { span, .. } => *span,
+    }
+}
+
+/// The expression of an argument.
+#[tactic(auto, using(qtt_syntax::proofs::Rows::rows))]
+pub fn expression(argument: &Argument) -> &Expr
+    ensures { tree_of result.now ≡ expression_of (argument_of argument.now) }
+{
+    match argument {
+        Argument::Written(e) => e,
+        Argument::Braced(e) => e,
+        Argument::Inserted(e) => e,
+    }
+}
+
+/// The first token of statements, of which there is one.
+pub fn first_place(statements: &[Statement]) -> Span
+    ensures { result ≡ list_place (statement_list (map statement_of statements.now)) }
+{
+    match statements {
+        [] => Span {
+            line: 0,
+            col: 0,
+            len: 0,
+        },
+        [first, ..] => statement_place(first),
     }
 }

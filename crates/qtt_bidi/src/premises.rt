@@ -12,7 +12,7 @@ ghost use Rattle.qtt_term.specs.View.{term, io};
 ghost use Rattle.qtt_rules.specs.Asks.{need, agree as agrees};
 ghost use Rattle.qtt_rules.specs.Refusal.{Cause, at};
 ghost use Rattle.qtt_term.specs.Signature.{Env};
-ghost use Rattle.qtt_bidi.specs.Answers.{Gives};
+ghost use Rattle.qtt_bidi.specs.Answers.{Gives, Told};
 ghost use Rattle.qtt_rules.specs.declared.detail.Detail.TheVariants.{BudgetSpent};
 ghost use Rattle.qtt_rules.specs.declared.errors.ElabError.TheVariants.{Refused};
 ghost use Rattle.qtt_bidi.specs.Calls.{Answers};
@@ -68,13 +68,13 @@ pub fn same_mult(one: Mult, other: Mult) -> bool
     }
 }
 
-fn same_id(one: GlobalId, other: GlobalId) -> bool
+pub fn same_id(one: GlobalId, other: GlobalId) -> bool
     ensures { result ≡ same_ids one other }
 {
     one.module.0 == other.module.0 && one.item == other.item
 }
 
-fn same_kind(one: IoKind, other: IoKind) -> bool
+pub fn same_kind(one: IoKind, other: IoKind) -> bool
     ensures { result ≡ same_io (io one) (io other) }
 {
     match (one, other) {
@@ -122,8 +122,15 @@ pub fn exactly(
     Err(ElabError::Refused(kept, span, rule, number))
 }
 
+/// The refusal of what a type has to be given for.
+pub fn needs_type(span: Span, rule: Rule, number: u8) -> ElabError
+    ensures { Told Cause.needs_type (at span rule number) result }
+{
+    ElabError::Refused(Detail::NeedsType, span, rule, number)
+}
+
 /// The name that a binder binds, where it has one.
-fn written_name(name: Option<&Local>) -> Result<Option<Name>, MemoryError>
+pub fn written_name(name: Option<&Local>) -> Result<Option<Name>, MemoryError>
     ensures { IfOk result (λ o. o ≡ bound_name (option_map (λ x. x.now) name.entry)) }
 {
     let Some(local) = name else {

@@ -1,6 +1,6 @@
 //! What takes exactly its arguments: signatures, and the results at these.
 
-ghost use Rattle.std.specs.Prelude.{◌≡◌, ◌++◌, [], length, IfOk, MatchResult};
+ghost use Rattle.std.specs.Prelude.{◌≡◌, ◌++◌, [], length, IfOk, IfErr, MatchResult};
 ghost use Rattle.qtt_term.specs.Signature.{Env, fam_at, signature as signature_at, type_arguments as types_of};
 ghost use Rattle.qtt_term.specs.Substitution.{sub};
 ghost use Rattle.qtt_term.specs.Term.{Named, Form, node, Action, Act, Sort};
@@ -44,6 +44,7 @@ fn type_signature(alloc: Global, name: TypeName) -> Result<Signature, ElabError>
         (signature_at E (Named.prim_ty (prim_type name))).arguments) }
     ensures ty { (E : Env) → IfOk result
         (λ s. term s.ty ≡ (signature_at E (Named.prim_ty (prim_type name))).type) }
+    ensures memory { IfErr result (λ e. e ≡ Memory) }
 {
     let arguments = match name {
         TypeName::Int | TypeName::Text | TypeName::Handle => Vec::new(alloc),
@@ -61,6 +62,7 @@ impl<'a, C: Converter> Elaborator<'a, C> {
         ensures arguments { IfOk result
             (λ s. tele s.arguments.items ≡ arguments_of (entries_of self.now) listed) }
         ensures ty { IfOk result (λ s. term s.ty ≡ type_of (entries_of self.now) listed) }
+        ensures memory { IfErr result (λ e. e ≡ Memory) }
     {
         match listed {
             Listed::Family(id) => self.family_signature(id),
@@ -75,6 +77,7 @@ impl<'a, C: Converter> Elaborator<'a, C> {
             (λ s. tele s.arguments.items ≡ family_telescope (entries_of self.now) id) }
         ensures ty { IfOk result
             (λ s. term s.ty ≡ Sort (fam_at (env (entries_of self.now)) id).level) }
+        ensures memory { IfErr result (λ e. e ≡ Memory) }
     {
         match self.globals.family(id) {
             Some(family) => Ok(Signature {
