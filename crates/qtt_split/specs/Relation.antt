@@ -57,14 +57,21 @@ node_of N w names c d s =
     branch_node N (fields_of w.mult w.params d) names w.variable (record { family = w.family; place = c })
     (con_of w c d) s w.reverted
 
--- `side` gives the right side of a clause, whose columns are read, at a node.
+-- which terms may be the right side of a clause, whose columns are read, at a node
+abbrev pub RightSides : Type 1
+RightSides = Node → Row → Term → Type 0
+
+-- the one that `side` gives
+abbrev pub gives : (Node → Row → Term) → RightSides
+gives side = λ N r t. t ≡ side N r
+
 -- A tree is made at a node; its leaves take their right sides from the front of a list and leave the rest of it.
 mutual
-  pub data Made (K : Entries) (side : Node → Row → Term) : Node → Tree → Terms → Terms → Type 0 where
+  pub data Made (K : Entries) (side : RightSides) : Node → Tree → Terms → Terms → Type 0 where
     none_left : {N : Node} {A : Term} {ps : List Shape} {sides : Terms} →
         decide K N.rows ≡ Decision.none_left → Made K side N (Tree.missing A ps) sides sides
     leaf : {N : Node} {r : Row} {rows : List Row} {l : Leaf} {t : Term} {sides : Terms} →
-        decide K N.rows ≡ Decision.decides r rows → examined r.columns ≡ None → t ≡ side N r →
+        decide K N.rows ≡ Decision.decides r rows → examined r.columns ≡ None → side N r t →
         Made K side N (Tree.leaf l) (t ▸ sides) sides
     -- a variable whose type is a family at parameters and indices; the targets are what the indices were read to
     split : {N : Node} {r : Row} {rows : List Row} {w : Splitting} {xs ts : Terms} {bs : Branches} {sides left : Terms}
@@ -86,8 +93,8 @@ mutual
         Made K side N (Tree.delete w Θ T) sides left
 
   -- one branch for each constructor, from number c on
-  pub data MadeBranches (K : Entries) (side : Node → Row → Term) : Node → Splitting → Terms → ℕ → List ConSig →
-      Branches → Terms → Terms → Type 0 where
+  pub data MadeBranches (K : Entries) (side : RightSides) : Node → Splitting → Terms → ℕ → List ConSig → Branches →
+      Terms → Terms → Type 0 where
     none : {N : Node} {w : Splitting} {ts : Terms} {c : ℕ} {sides : Terms} →
         MadeBranches K side N w ts c [] Branches.no_branch sides sides
     clashes : {N : Node} {w : Splitting} {ts : Terms} {c n : ℕ} {d : ConSig} {ds : List ConSig} {A : Term}

@@ -19,11 +19,11 @@ use Rattle.qtt_split.specs.Tests.{Test, at as test_at}
 use Rattle.qtt_split.specs.Tree.{Tree, Branches}
 use Rattle.qtt_split.specs.Missing.{first_missing, patterns}
 use Rattle.qtt_split.specs.Node.{Row, Node}
-use Rattle.qtt_split.specs.Relation.{Made}
+use Rattle.qtt_split.specs.Relation.{gives, Made}
 use Rattle.qtt_split.specs.Plan.{Planned, plan, start}
 use Rattle.qtt_split.specs.Group.{Defined, body_of}
 use Rattle.qtt_split.specs.Fragment.{fragment}
-use Rattle.qtt_split.specs.Programs.{at, clause, definition, plus_defined, append_defined, pred_group, deletes_defined}
+use Rattle.qtt_split.specs.Programs.{at, definition, plus_defined, append_defined, pred_group, deletes_defined}
 
 -- ---- what is asked
 -- the tree, and the body, within a budget
@@ -153,7 +153,8 @@ sides_by t u N r = cond (eqb r.clause 0) t u
 
 abbrev pub made_so : Defined → Tele → Term → Tree → Term → Term → Type 0
 made_so D Θ A T t u =
-    Made D.group.globals (sides_by t u) (start D.group D.labels (record { binders = Θ; goal = A })) T (t ▸ u ▸ ε) ε
+    Made D.group.globals (gives (sides_by t u)) (start D.group D.labels (record { binders = Θ; goal = A })) T
+    (t ▸ u ▸ ε) ε
 
 pub record MadeRows : Type 0 where
   pub plus_is_made : made_so plus_defined ((ω, nat) ∷ (ω, nat) ∷ []) nat plus_tree (var 0) (s (plus (var 0) (var 1)))
