@@ -1,0 +1,11 @@
+pub mod Answering
+pub mod Fits
+pub mod HoleRuleRows
+pub mod Left
+pub mod Onward
+pub mod Passing
+pub mod Rows
+pub mod Sighted
+pub mod Tails
+pub mod Walked
+pub mod Walking

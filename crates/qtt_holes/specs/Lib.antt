@@ -1,0 +1,12 @@
+pub mod Answered
+pub mod Calls
+pub mod Hole
+pub mod HoleRuleRows
+pub mod HoleText
+pub mod HoleTextRows
+pub mod Laws
+pub mod Rows
+pub mod Rules
+pub mod View
+pub mod Walk
+pub mod Ways
