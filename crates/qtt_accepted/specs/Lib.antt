@@ -1,0 +1,4 @@
+pub mod Tapeless
+pub mod Laws
+pub mod Scoped
+pub mod Stages

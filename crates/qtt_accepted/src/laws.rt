@@ -1,0 +1,54 @@
+//! Laws of what elaboration accepts. Each function does nothing: its contract is the law.
+
+ghost use Rattle.qtt_accepted.specs.Laws.{BuildsAreFormed, GroupsMakeNoTape, ModulesKeepForm, ElaborationMakesNoTape, ElaborationStaysInScope, WellFormedIsTapeless, GoodFieldsHoldNoCase, SignaturesKeepForm, FamiliesKeepForm, BodiesKeepForm};
+
+/// No Tape stands in what elaboration gives.
+pub fn elaboration_makes_no_tape()
+    ensures { ElaborationMakesNoTape }
+{}
+
+/// What elaboration gives mentions no variable past its scope.
+pub fn elaboration_stays_in_scope()
+    ensures { ElaborationStaysInScope }
+{}
+
+/// No Tape stands in a well-formed environment.
+pub fn well_formed_environments_hold_no_tape()
+    ensures { WellFormedIsTapeless }
+{}
+
+/// Strict positivity leaves no Case of the family that is being declared.
+pub fn good_fields_hold_no_case()
+    ensures { GoodFieldsHoldNoCase }
+{}
+
+/// An accepted signature keeps the environment well formed.
+pub fn signatures_keep_form()
+    ensures { SignaturesKeepForm }
+{}
+
+/// An accepted family keeps the environment well formed.
+pub fn families_keep_form()
+    ensures { FamiliesKeepForm }
+{}
+
+/// An accepted body without a Tape keeps the environment well formed.
+pub fn bodies_keep_form()
+    ensures { BodiesKeepForm }
+{}
+
+/// No Tape stands in the body that an accepted group of clauses gives.
+pub fn groups_make_no_tape()
+    ensures { GroupsMakeNoTape }
+{}
+
+/// An accepted module keeps the environment well formed: each of its families, signatures and
+/// bodies is typed by the core judgement. Without a hole it keeps the environment complete.
+pub fn modules_keep_form()
+    ensures { ModulesKeepForm }
+{}
+
+/// What an accepted build declares is well formed and, without a hole, complete.
+pub fn builds_are_formed()
+    ensures { BuildsAreFormed }
+{}

@@ -1,0 +1,22 @@
+//! What accepted modules keep: their environment is well formed, so that each core is typed.
+//!
+//! An accepted module keeps the environment well formed, and complete where it has no hole
+//! (`laws::modules_keep_form`); so what an accepted build declares, over Prim, is well formed and,
+//! without a hole, complete (`laws::builds_are_formed`): each type of a parameter, an index, a
+//! field or a signature is a type in the core judgement, each family strictly positive, and each
+//! body of its signature's type with no use. A module is to be under ids that are new, its
+//! signatures marked 0 or not at all, and no two of its signatures or groups of clauses of one
+//! name, as the numbering of items, the grammar and the names of a text give it.
+//!
+//! Under it: an accepted signature, family or body keeps the environment well formed
+//! (`laws::signatures_keep_form`, `families_keep_form`, `bodies_keep_form`); what elaboration gives
+//! stays in its scope (`laws::elaboration_stays_in_scope`) and holds no open tape, nor does the
+//! body that a group of clauses gives (`laws::elaboration_makes_no_tape`, `groups_make_no_tape`);
+//! and strict positivity leaves no match of the family that is being declared
+//! (`laws::good_fields_hold_no_case`).
+//!
+//! Not shown here: completeness, that what has derivations is accepted. There are no wrong bodies
+//! to refuse, since no body says anything.
+#![tactic(auto)]
+
+pub mod laws;

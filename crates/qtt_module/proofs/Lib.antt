@@ -1,0 +1,9 @@
+pub mod Answers
+pub mod Declared
+pub mod FamilyRows
+pub mod Grouped
+pub mod Mains
+pub mod ModuleRuleRows
+pub mod Rows
+pub mod Turned
+pub mod Unread

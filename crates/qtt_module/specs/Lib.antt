@@ -1,0 +1,12 @@
+pub mod Declarations
+pub mod Families
+pub mod FamilyRules
+pub mod FamilyRows
+pub mod GroupRules
+pub mod Laws
+pub mod Main
+pub mod Module
+pub mod ModuleRuleRows
+pub mod ModuleRules
+pub mod Rows
+pub mod Sides
