@@ -31,12 +31,12 @@ abbrev pub Has : {A : Type 0} → (A → Type 0) → Option A → Type 0
 Has P None = Unit {0}
 Has P (Some x) = P x
 
-each_at : {A : Type 0} (P : A → Type 0) (xs : List A) (i : ℕ) → Each P xs → Has P (slice_get xs i)
+pub each_at : {A : Type 0} (P : A → Type 0) (xs : List A) (i : ℕ) → Each P xs → Has P (slice_get xs i)
 each_at P [] i h = tt
 each_at P (x ∷ xs) zero h = h.0
 each_at P (x ∷ xs) (suc i) h = each_at P xs i h.1
 
-each_found : {A : Type 0} (P : A → Type 0) (p : A → Bool) (xs : List A) → Each P xs → Has P (find p xs)
+pub each_found : {A : Type 0} (P : A → Type 0) (p : A → Bool) (xs : List A) → Each P xs → Has P (find p xs)
 each_found P p [] h = tt
 each_found P p (x ∷ xs) h = by (p x) refl (each_found P p xs h.1)
   where
@@ -65,7 +65,7 @@ pub record Sees (P : Sig → Type 0) (K : Known) : Type 0 where
   pub imports : Each (λ (e : Exports). Each P e.sigs) K.imports
 
 module _ (P : Sig → Type 0) where
-  mapped : (o : Option (List ℕ × Sig)) → Has (λ (o : List ℕ × Sig). P o.1) o →
+  pub mapped : (o : Option (List ℕ × Sig)) → Has (λ (o : List ℕ × Sig). P o.1) o →
       Has P (option_map (λ (o : List ℕ × Sig). o.1) o)
   mapped None h = tt
   mapped (Some o) h = h

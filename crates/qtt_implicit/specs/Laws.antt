@@ -1,11 +1,13 @@
 -- The laws of filling.
-use Rattle.std.specs.Prelude.{◌≡◌, ℕ, suc, ◌+◌, ◌≤◌, if◌then◌else◌, Bool, true, false, List, sum_by, All, Ok}
+use Rattle.std.specs.Prelude.{◌≡◌, ℕ, suc, ◌+◌, ◌≤◌, if◌then◌else◌, Bool, true, false, List, ◌∷◌, sum_by, All, Ok}
 use Rattle.qtt_base.specs.Limits.{standard}
 use Rattle.qtt_base.specs.declared.place.ModuleId.{ModuleId}
 use Rattle.qtt_syntax.specs.declared.expr.Mark.{Mark}
 use Rattle.qtt_syntax.specs.declared.expr.Mark.TheVariants.{Written, Braced, Inserted}
 use Rattle.qtt_syntax.specs.Tree.{Tree, Arguments, Shape, Shapes, Param, Con, Item, Module}
-use Rattle.qtt_syntax.specs.Tree.Tree.{apply, pi}
+use Rattle.qtt_syntax.specs.declared.expr.Target.{Target}
+use Rattle.qtt_syntax.specs.declared.expr.Target.TheVariants as target
+use Rattle.qtt_syntax.specs.Tree.Tree.{name, apply, pi}
 use Rattle.qtt_syntax.specs.Tree.Argument.{argument}
 use Rattle.qtt_syntax.specs.Tree.Arguments.{no_argument, argument_and}
 use Rattle.qtt_syntax.specs.Tree.Shape.{variable, wildcard, constructor, dot}
@@ -15,8 +17,11 @@ use Rattle.qtt_syntax.specs.Tree.Con.{con}
 use Rattle.qtt_syntax.specs.Tree.Item.{family, signature, clause}
 use Rattle.qtt_syntax.specs.Tree.Module.{module_text}
 use Rattle.qtt_names.specs.Exports.{Exports, Sig}
+use Rattle.qtt_names.specs.PrimSigs.{prim_exports}
 use Rattle.qtt_implicit.specs.Moving.{weighed}
+use Rattle.qtt_implicit.specs.Known.{exported}
 use Rattle.qtt_implicit.specs.Walk.{is_inserted, is_written}
+use Rattle.qtt_implicit.specs.Patterns.{braces_of}
 use Rattle.qtt_implicit.specs.Filled.{FilledText, item_nodes, filled}
 use Rattle.qtt_implicit.specs.Forget.{text_forgotten}
 
@@ -106,6 +111,42 @@ HasNoBraces S = S.braces ≡ 0
 abbrev pub EachSig : (Sig → Type 0) → List Exports → Type 0
 EachSig P imports = All (λ (e : Exports). All P e.sigs) imports
 
+-- ---- names, and the binders in braces that they see in what is imported
+abbrev pub braces_seen : List Exports → Target → ℕ
+braces_seen es (target.Global id) = braces_of (exported es id)
+braces_seen es (target.Local i) = 0
+braces_seen es target.Unknown = 0
+
+-- of an expression that is a name
+abbrev pub name_braces : List Exports → Tree → ℕ
+name_braces es (name n) = braces_seen es n.target
+name_braces es _ = 0
+
+-- of the constructors of a pattern
+abbrev mutual
+  pub head_braces : List Exports → Shape → ℕ
+  head_braces es (variable k n s) = 0
+  head_braces es (wildcard k s) = 0
+  head_braces es (constructor k h ps s) = braces_seen es h.target + all_head_braces es ps
+  head_braces es (dot k e s) = 0
+
+  pub all_head_braces : List Exports → Shapes → ℕ
+  all_head_braces es no_shape = 0
+  all_head_braces es (shape_and p more) = head_braces es p + all_head_braces es more
+
+abbrev pub item_head_braces : List Exports → Item → ℕ
+item_head_braces es (clause n ps side s) = sum_by (head_braces es) ps
+item_head_braces es (family n ns ps t cs s) = 0
+item_head_braces es (signature p m n ns t s) = 0
+
+abbrev pub no_mark : Mark → ℕ
+no_mark k = 0
+
+-- no name of a text sees a binder in braces, in an expression or as a constructor of a pattern
+abbrev pub NamesNoBraces : List Exports → Module → Type 0
+NamesNoBraces es m =
+    (weighed_text (name_braces es) no_mark m ≡ 0) × (sum_by (item_head_braces es) (items_of m) ≡ 0)
+
 -- ---- laws
 -- forgetting what was filled in gives the text back
 abbrev pub FilledIsForgotten : Type 0
@@ -113,11 +154,12 @@ FilledIsForgotten =
     (home : ModuleId) (imports : List Exports) (text : Module) (r : FilledText) →
     EachSig HasItsBinders imports → IsWritten text → filled home imports text ≡ Ok r → text_forgotten r.text ≡ text
 
--- where nothing is in braces, nothing is put in
+-- where nothing is in braces and no name sees a binder in braces, nothing is put in
 abbrev pub FilledWithItself : Type 0
 FilledWithItself =
     (home : ModuleId) (imports : List Exports) (text : Module) →
-    EachSig HasNoBraces imports → IsPlain text → All (λ i. item_nodes i ≤ standard.filled_nodes) (items_of text) →
+    NamesNoBraces (prim_exports ∷ imports) text → IsPlain text →
+    All (λ i. item_nodes i ≤ standard.filled_nodes) (items_of text) →
     (sigs : List Sig) × (filled home imports text ≡ Ok (record { text = text; sigs = sigs }))
 
 abbrev pub FilledIsWithinLimit : Type 0

@@ -6,6 +6,9 @@ use Rattle.qtt_implicit.specs.declared.filling.shapes.Shape as shape_code
 use Rattle.qtt_implicit.specs.declared.filling.shapes.Shape.TheVariants as shape
 use Rattle.qtt_implicit.specs.declared.filling.shapes.Shapes as shapes_code
 use Rattle.qtt_implicit.specs.declared.filling.shapes.Shapes.TheVariants as shapes
+use Rattle.qtt_implicit.specs.declared.filling.insertion.NumberedShape.{NumberedShape}
+use Rattle.qtt_implicit.specs.declared.filling.insertion.NumberedShapes.{NumberedShapes}
+use Rattle.qtt_implicit.specs.Patterns.{Numbered}
 use Rattle.qtt_implicit.specs.Nodes.{used_name, node_tree}
 
 abbrev mutual
@@ -18,3 +21,10 @@ abbrev mutual
   pub shape_row : shapes_code.Shapes → Shapes
   shape_row shapes.End = no_shape
   shape_row (shapes.More' p q more) = shape_and (shape_tree p) (shape_row more)
+
+-- ---- with the number of the variables that are put in
+abbrev pub numbered_shape : NumberedShape → Numbered Shape
+numbered_shape p = (shape_tree p.shape, p.next)
+
+abbrev pub numbered_shapes : NumberedShapes → Numbered Shapes
+numbered_shapes p = (shape_row p.shapes.now, p.next)

@@ -34,7 +34,7 @@ pub fn forget(alloc: Global, text: &ModuleText) -> Result<ModuleText, MemoryErro
     })
 }
 
-fn copied_imports(alloc: Global, source: &[Import]) -> Result<Vec<Import>, MemoryError>
+pub(crate) fn copied_imports(alloc: Global, source: &[Import]) -> Result<Vec<Import>, MemoryError>
     ensures { IfOk result (λ copies. copies.items ≡ source.now) }
 {
     let mut copies = Vec::with_capacity(alloc, source.len())?;

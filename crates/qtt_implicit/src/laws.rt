@@ -9,8 +9,8 @@ pub fn filled_is_forgotten()
     ensures { FilledIsForgotten }
 {}
 
-/// A text is filled with itself where neither it nor a signature that it sees has braces, and no
-/// item of it has too many nodes.
+/// A text is filled with itself where nothing in it is in braces, no name in it has a binder in
+/// braces in what is imported, and no item of it has too many nodes.
 pub fn filled_with_itself()
     ensures { FilledWithItself }
 {}

@@ -2,4 +2,6 @@
 #![tactic(auto)]
 
 #[cfg(test)]
+mod filling;
+#[cfg(test)]
 mod forgetting;

@@ -27,10 +27,11 @@ pub fn with_slot<'a>(
             None => {
                 let weight = text.weight()?;
                 if weight.known {
+                    let found = text.resolved()?;
                     placed(
                         arena,
                         Slots::Filled {
-                            text,
+                            text: found,
                             weight,
                             older,
                         },
