@@ -4,11 +4,11 @@ use Rattle.std.proofs.lemmas.Bool.{cases_lt}
 use Rattle.std.proofs.lemmas.List.{length-take}
 use Rattle.qtt_edge.specs.Sink.{AddsFront}
 use Rattle.qtt_edge.specs.Vault.{Reads}
-use Rattle.qtt_lexer.specs.Lexed.{seen}
+use Rattle.qtt_diag.specs.Kept.{detail}
 use Rattle.qtt_cli.specs.declared.ending.Ending.{Ending}
 use Rattle.qtt_cli.specs.declared.ending.Ending.TheVariants as ending
 use Rattle.qtt_cli.specs.Words.{asked}
-use Rattle.qtt_cli.specs.Reading.{reading}
+use Rattle.qtt_cli.specs.Reading.{Why, reading}
 use Rattle.qtt_cli.specs.Answers.{Texts, Read, Accepts, HasFault, memory_line}
 use Rattle.qtt_cli.specs.Endings.{EndsText, Faults, Ends, Reports}
 use Rattle.qtt_cli.proofs.Stages.{too_long_to_read}
@@ -84,8 +84,13 @@ pub ends_as_text : (words : List (String Global)) (texts : Texts) (faults : Faul
     EndsText name front faults.output old new e → Ends words texts faults old new e
 ends_as_text words texts faults name front old new ending.Ran w ends =
     (ends.0, accepts words texts name front w ends.0 ends.1, ends.2)
-ends_as_text words texts faults name front old new (ending.Refused refused fault) w ends = (
-  subst (λ n. HasFault words texts n (seen fault)) (sym ends.0)
+ends_as_text words texts faults name front old new (ending.Refused asked s d) w ends = (
+  subst (λ n. HasFault words texts n (Why.refused s (detail d))) (sym ends.0)
+      (record { text = w.text; read = w.read; fault = sym w.same ∙ ends.1 }),
+  ends.2,
+)
+ends_as_text words texts faults name front old new (ending.NotYet asked s) w ends = (
+  subst (λ n. HasFault words texts n (Why.not_yet s)) (sym ends.0)
       (record { text = w.text; read = w.read; fault = sym w.same ∙ ends.1 }),
   ends.2,
 )

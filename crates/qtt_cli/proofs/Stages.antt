@@ -1,30 +1,22 @@
 -- Reading, stage by stage.
 use Rattle.std.proofs.Common.{◌≡◌, ◌<◌, ◌≤◌, ℕ, List, length, Ok, Err, Vec, Global, sym, ap, ◌∙◌, arith}
 use Rattle.std.proofs.lemmas.Bool.Decides.{nat_tests}
-use Rattle.qtt_lexer.specs.Lexed.{Mistake, seen, lexed}
-use Rattle.qtt_lexer.specs.Lexed as lexer
-use Rattle.qtt_lexer.specs.declared.errors.LexError.{LexError}
-use Rattle.qtt_lexer.specs.declared.errors.LexError.TheVariants as lex_error
+use Rattle.qtt_lexer.specs.Lexed.{lexed}
 use Rattle.qtt_lexer.specs.declared.token.Token.{Token}
-use Rattle.qtt_layout.specs.Answer as layout
 use Rattle.qtt_layout.specs.Rules.{laid}
-use Rattle.qtt_layout.specs.declared.errors.LayoutError.{LayoutError}
-use Rattle.qtt_layout.specs.declared.errors.LayoutError.TheVariants as layout_error
 use Rattle.qtt_layout.specs.declared.laid.Laid.{Laid}
-use Rattle.qtt_grammar.specs.Parsed as grammar
 use Rattle.qtt_grammar.specs.Parsed.{parsed}
-use Rattle.qtt_grammar.specs.declared.errors.GrammarError.{GrammarError}
-use Rattle.qtt_grammar.specs.declared.errors.GrammarError.TheVariants as grammar_error
 use Rattle.qtt_syntax.specs.Tree.{Module}
-use Rattle.qtt_cli.specs.Reading.{Reading, ◌>>=◌, fits, too_long, tree_of_text, has_name, stands_alone, with_names, built, reading}
+use Rattle.qtt_diag.specs.Kept.{detail}
+use Rattle.qtt_cli.specs.Reading.{Why, Reading, ◌>>=◌, staged, fits, too_long, tree_of_text, has_name, stands_alone, with_names, built, reading}
 use Rattle.qtt_cli.specs.Hello.{lines_of}
-use Rattle.qtt_cli.specs.ReadAnswer.{Gives, Says, of_lexer, of_layout, of_grammar}
+use Rattle.qtt_cli.specs.ReadAnswer.{Gives, Says}
 use Rattle.qtt_cli.specs.declared.errors.ReadError.{ReadError}
 use Rattle.qtt_cli.specs.declared.errors.ReadError.TheVariants as error
 
--- a fault of the one is the fault of both
-pub err_then : {A B : Type 0} (r : Reading A) (m : Mistake) (k : A → Reading B) → r ≡ Err m → (r >>= k) ≡ Err m
-err_then r m k is = ap (λ (x : Reading _). x >>= k) is
+-- why the one has no value is why both have none
+pub err_then : {A B : Type 0} (r : Reading A) (w : Why) (k : A → Reading B) → r ≡ Err w → (r >>= k) ≡ Err w
+err_then r w k is = ap (λ (x : Reading _). x >>= k) is
 
 pub ok_then : {A B : Type 0} (r : Reading A) (a : A) (k : A → Reading B) → r ≡ Ok a → (r >>= k) ≡ k a
 ok_then r a k is = ap (λ (x : Reading _). x >>= k) is
@@ -41,55 +33,39 @@ unfolding reading
 too_long_to_read name text long = err_then (tree_of_text text) too_long _ (too_long_text text long)
 
 -- ---- what a stage answers is what the stages from it on give
-pub says_so : {A B : Type 0} (view : A → B) (e : ReadError) (m : Mistake) (answer : Reading B) → Says e m →
-    answer ≡ Err m →
+pub says_so : {A B : Type 0} (view : A → B) (e : ReadError) (w : Why) (answer : Reading B) → Says e w →
+    answer ≡ Err w →
     Gives view (Err e) answer
-says_so view error.Memory m answer says is = tt
-says_so view (error.Fault fault) m answer says is = is ∙ ap Err (sym says)
+says_so view error.Memory w answer says is = tt
+says_so view (error.Refused s d) w answer says is = is ∙ ap Err (sym says)
+says_so view (error.NotYet s) w answer says is = is ∙ ap Err (sym says)
 
 pub by_fault : {A B C D : Type 0} (view : A → B) (other : C → D) (e : ReadError) (outcome : Reading B)
     (k : B → Reading D) →
     Gives view (Err e) outcome → Gives other (Err e) (outcome >>= k)
 by_fault view other error.Memory outcome k gives = tt
-by_fault view other (error.Fault fault) outcome k gives = err_then outcome (seen fault) k gives
-
-pub by_lexer : {C D : Type 0} (other : C → D) (e : LexError) (outcome : Reading (List Token))
-    (k : List Token → Reading D) →
-    lexer.Refuses e outcome → Gives other (Err (of_lexer e)) (outcome >>= k)
-by_lexer other lex_error.Memory outcome k gives = tt
-by_lexer other (lex_error.Fault fault) outcome k gives = err_then outcome (seen fault) k gives
-
-pub by_layout : {C D : Type 0} (other : C → D) (e : LayoutError) (outcome : Reading (List Laid))
-    (k : List Laid → Reading D) →
-    layout.Refuses e outcome → Gives other (Err (of_layout e)) (outcome >>= k)
-by_layout other layout_error.Memory outcome k gives = tt
-by_layout other (layout_error.Fault fault) outcome k gives = err_then outcome (seen fault) k gives
-
-pub by_grammar : {C : Type 0} (other : C → Module) (e : GrammarError) (outcome : Reading Module) →
-    grammar.Refuses e outcome →
-    Gives other (Err (of_grammar e)) outcome
-by_grammar other grammar_error.Memory outcome gives = tt
-by_grammar other (grammar_error.Fault fault) outcome gives = gives
+by_fault view other (error.Refused s d) outcome k gives = err_then outcome (Why.refused s (detail d)) k gives
+by_fault view other (error.NotYet s) outcome k gives = err_then outcome (Why.not_yet s) k gives
 
 fits_so : (text : List ℕ) → length text ≤ 1048576 → fits text ≡ Ok tt
 fits_so text short = grind (arith, nat_tests)
 
-pub at_tokens : (text : List ℕ) → length text ≤ 1048576 →
-    tree_of_text text ≡ (lexed text >>= λ tokens. laid tokens >>= λ marks. parsed marks)
-unfolding tree_of_text
-at_tokens text short = ok_then (fits text) tt
-    (λ u. lexed text >>= λ tokens. laid tokens >>= λ marks. parsed marks) (fits_so text short)
+abbrev behind_tokens : List Token → Reading Module
+behind_tokens tokens = staged (laid tokens) >>= λ marks. staged (parsed marks)
 
-pub at_marks : (text : List ℕ) (tokens : List Token) → length text ≤ 1048576 → lexed text ≡ Ok tokens →
-    tree_of_text text ≡ (laid tokens >>= λ marks. parsed marks)
-at_marks text tokens short is =
-    at_tokens text short ∙ ok_then (lexed text) tokens (λ tokens. laid tokens >>= λ marks. parsed marks) is
+pub at_tokens : (text : List ℕ) → length text ≤ 1048576 → tree_of_text text ≡ (staged (lexed text) >>= behind_tokens)
+unfolding tree_of_text
+at_tokens text short = ok_then (fits text) tt (λ u. staged (lexed text) >>= behind_tokens) (fits_so text short)
+
+pub at_marks : (text : List ℕ) (tokens : List Token) → length text ≤ 1048576 → staged (lexed text) ≡ Ok tokens →
+    tree_of_text text ≡ (staged (laid tokens) >>= λ marks. staged (parsed marks))
+at_marks text tokens short is = at_tokens text short ∙ ok_then (staged (lexed text)) tokens behind_tokens is
 
 pub at_tree : (text : List ℕ) (tokens : List Token) (marks : List Laid) → length text ≤ 1048576 →
-    lexed text ≡ Ok tokens →
-    laid tokens ≡ Ok marks → tree_of_text text ≡ parsed marks
+    staged (lexed text) ≡ Ok tokens →
+    staged (laid tokens) ≡ Ok marks → tree_of_text text ≡ staged (parsed marks)
 at_tree text tokens marks short is are =
-    at_marks text tokens short is ∙ ok_then (laid tokens) marks (λ marks. parsed marks) are
+    at_marks text tokens short is ∙ ok_then (staged (laid tokens)) marks (λ marks. staged (parsed marks)) are
 
 -- ---- the stages behind the tree
 abbrev behind_alone : Module → Reading (List (List ℕ))

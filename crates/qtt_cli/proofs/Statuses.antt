@@ -1,10 +1,11 @@
 -- What each status says, by the endings that it may come from.
 use Rattle.std.proofs.Common.{◌≡◌, ◌≢◌, ℕ, List, [], Option, None, ◌⊎◌, inl, inr, String, Global, sym, ◌∙◌, arith}
 use Rattle.qtt_edge.specs.Sink.{Adds, AddsFront}
-use Rattle.qtt_lexer.specs.Lexed.{seen}
+use Rattle.qtt_diag.specs.Kept.{detail}
 use Rattle.qtt_cli.specs.declared.ending.Ending.{Ending}
 use Rattle.qtt_cli.specs.declared.ending.Ending.TheVariants as ending
 use Rattle.qtt_cli.specs.Words.{asked}
+use Rattle.qtt_cli.specs.Reading.{Why}
 use Rattle.qtt_cli.specs.Smallest.{output}
 use Rattle.qtt_cli.specs.Answers.{Texts, Accepts, Refuses, Fails, Misses, PutsFront, Tells, TellsFront, Due, usage_line, absent_line, refusal_line, vault_line, output_line, memory_line}
 use Rattle.qtt_cli.specs.Endings.{Faults, Ends, Finishes, Reports}
@@ -59,9 +60,11 @@ accepted_status s ending.Ran ends told is = (ends.0, ends.1, ends.2, told.1)
 accepted_status s ending.Usage ends told is =
     absurd (other_status s 64 usage_line 0 (omega arith) (omega arith) told is)
 accepted_status s (ending.Absent name) ends told is =
-    absurd (other_status s 66 (absent_line name.now) 0 (omega arith) (omega arith) told is)
-accepted_status s (ending.Refused name fault) ends told is =
-    absurd (other_status s 1 (refusal_line name.now (seen fault)) 0 (omega arith) (omega arith) told is)
+    absurd (other_status s 66 (absent_line name) 0 (omega arith) (omega arith) told is)
+accepted_status s (ending.Refused name span kept) ends told is =
+    absurd (other_status s 1 (refusal_line name (Why.refused span (detail kept))) 0 (omega arith) (omega arith) told is)
+accepted_status s (ending.NotYet name span) ends told is =
+    absurd (other_status s 1 (refusal_line name (Why.not_yet span)) 0 (omega arith) (omega arith) told is)
 accepted_status s ending.VaultFailed ends told is =
     absurd (other_status s 74 vault_line 0 (omega arith) (omega arith) told is)
 accepted_status s ending.OutputFailed ends told is =
@@ -73,13 +76,22 @@ pub refused_status : (s : Seen) (e : Ending) → EndsIn s e → FinishesIn s e �
 refused_status s ending.Ran ends told is = absurd (not_both s 0 1 (omega arith) told.0 is)
 refused_status s ending.Usage ends told is = absurd (other_status s 64 usage_line 1 (omega arith) (omega arith) told is)
 refused_status s (ending.Absent name) ends told is =
-    absurd (other_status s 66 (absent_line name.now) 1 (omega arith) (omega arith) told is)
-refused_status s (ending.Refused name fault) ends told is = (
+    absurd (other_status s 66 (absent_line name) 1 (omega arith) (omega arith) told is)
+refused_status s (ending.Refused name span kept) ends told is = (
   record {
-    name = name.now;
-    mistake = seen fault;
+    name = name;
+    why = Why.refused span (detail kept);
     found = ends.0;
-    told = same_status s 1 (refusal_line name.now (seen fault)) (omega arith) told is;
+    told = same_status s 1 (refusal_line name (Why.refused span (detail kept))) (omega arith) told is;
+  },
+  ends.1,
+)
+refused_status s (ending.NotYet name span) ends told is = (
+  record {
+    name = name;
+    why = Why.not_yet span;
+    found = ends.0;
+    told = same_status s 1 (refusal_line name (Why.not_yet span)) (omega arith) told is;
   },
   ends.1,
 )
@@ -94,9 +106,12 @@ pub usage_status : (s : Seen) (e : Ending) → EndsIn s e → FinishesIn s e →
 usage_status s ending.Ran ends told is = absurd (not_both s 0 64 (omega arith) told.0 is)
 usage_status s ending.Usage ends told is = (ends.0, same_status s 64 usage_line (omega arith) told is, ends.1)
 usage_status s (ending.Absent name) ends told is =
-    absurd (other_status s 66 (absent_line name.now) 64 (omega arith) (omega arith) told is)
-usage_status s (ending.Refused name fault) ends told is =
-    absurd (other_status s 1 (refusal_line name.now (seen fault)) 64 (omega arith) (omega arith) told is)
+    absurd (other_status s 66 (absent_line name) 64 (omega arith) (omega arith) told is)
+usage_status s (ending.Refused name span kept) ends told is =
+    absurd (other_status s 1 (refusal_line name (Why.refused span (detail kept))) 64
+    (omega arith) (omega arith) told is)
+usage_status s (ending.NotYet name span) ends told is =
+    absurd (other_status s 1 (refusal_line name (Why.not_yet span)) 64 (omega arith) (omega arith) told is)
 usage_status s ending.VaultFailed ends told is =
     absurd (other_status s 74 vault_line 64 (omega arith) (omega arith) told is)
 usage_status s ending.OutputFailed ends told is =
@@ -110,15 +125,18 @@ absent_status s ending.Usage ends told is = absurd (other_status s 64 usage_line
 absent_status s (ending.Absent name) ends told is = (
   ends.0,
   record {
-    name = name.now;
+    name = name;
     asked_for = ends.1;
     lacking = ends.2;
-    told = same_status s 66 (absent_line name.now) (omega arith) told is;
+    told = same_status s 66 (absent_line name) (omega arith) told is;
   },
   ends.3,
 )
-absent_status s (ending.Refused name fault) ends told is =
-    absurd (other_status s 1 (refusal_line name.now (seen fault)) 66 (omega arith) (omega arith) told is)
+absent_status s (ending.Refused name span kept) ends told is =
+    absurd (other_status s 1 (refusal_line name (Why.refused span (detail kept))) 66
+    (omega arith) (omega arith) told is)
+absent_status s (ending.NotYet name span) ends told is =
+    absurd (other_status s 1 (refusal_line name (Why.not_yet span)) 66 (omega arith) (omega arith) told is)
 absent_status s ending.VaultFailed ends told is =
     absurd (other_status s 74 vault_line 66 (omega arith) (omega arith) told is)
 absent_status s ending.OutputFailed ends told is =
@@ -132,9 +150,12 @@ pub failed_status : (s : Seen) (e : Ending) → EndsIn s e → FinishesIn s e �
 failed_status s ending.Ran ends told is = absurd (not_both s 0 74 (omega arith) told.0 is)
 failed_status s ending.Usage ends told is = absurd (other_status s 64 usage_line 74 (omega arith) (omega arith) told is)
 failed_status s (ending.Absent name) ends told is =
-    absurd (other_status s 66 (absent_line name.now) 74 (omega arith) (omega arith) told is)
-failed_status s (ending.Refused name fault) ends told is =
-    absurd (other_status s 1 (refusal_line name.now (seen fault)) 74 (omega arith) (omega arith) told is)
+    absurd (other_status s 66 (absent_line name) 74 (omega arith) (omega arith) told is)
+failed_status s (ending.Refused name span kept) ends told is =
+    absurd (other_status s 1 (refusal_line name (Why.refused span (detail kept))) 74
+    (omega arith) (omega arith) told is)
+failed_status s (ending.NotYet name span) ends told is =
+    absurd (other_status s 1 (refusal_line name (Why.not_yet span)) 74 (omega arith) (omega arith) told is)
 failed_status s ending.VaultFailed ends told is =
     let asks = ends.1 in
     inl (
@@ -163,9 +184,12 @@ memory_status s ending.Ran ends told is = absurd (not_both s 0 71 (omega arith) 
 memory_status s ending.Usage ends told is =
     (inl ends.1, told_front s 64 usage_line (omega arith) (Due.usage ends.0) told is)
 memory_status s (ending.Absent name) ends told is =
-    (inl ends.3, told_front s 66 (absent_line name.now) (omega arith) (Due.absent ends.1) told is)
-memory_status s (ending.Refused name fault) ends told is =
-    (inl ends.1, told_front s 1 (refusal_line name.now (seen fault)) (omega arith) (Due.refusal ends.0) told is)
+    (inl ends.3, told_front s 66 (absent_line name) (omega arith) (Due.absent ends.1) told is)
+memory_status s (ending.Refused name span kept) ends told is =
+    let line = refusal_line name (Why.refused span (detail kept)) in
+    (inl ends.1, told_front s 1 line (omega arith) (Due.refusal ends.0) told is)
+memory_status s (ending.NotYet name span) ends told is =
+    (inl ends.1, told_front s 1 (refusal_line name (Why.not_yet span)) (omega arith) (Due.refusal ends.0) told is)
 memory_status s ending.VaultFailed ends told is =
     let asks = ends.1 in
     (inl ends.2, told_front s 74 vault_line (omega arith) (Due.vault_fault asks.1) told is)

@@ -3,9 +3,8 @@ use Rattle.std.specs.Prelude.{◌≡◌, ℕ, List, [], ◌++◌, ◌⊎◌, Opt
 use Rattle.std.specs.declared.alloc.Global.{Global}
 use Rattle.qtt_edge.specs.Counts.{Rose}
 use Rattle.qtt_edge.specs.Sink.{Adds, AddsFront}
-use Rattle.qtt_lexer.specs.Lexed.{Mistake}
 use Rattle.qtt_cli.specs.Words.{asked}
-use Rattle.qtt_cli.specs.Reading.{reading}
+use Rattle.qtt_cli.specs.Reading.{Why, reading}
 use Rattle.qtt_cli.specs.Messages.{message}
 use Rattle.qtt_cli.specs.Smallest.{line, output}
 
@@ -20,8 +19,8 @@ usage_line = line (codes "usage: qtt COMMAND MODULE [--steps N] [--budget N] [--
 abbrev pub absent_line : List ℕ → List ℕ
 absent_line name = line (codes "module " ++ name ++ codes " not found")
 
-abbrev pub refusal_line : List ℕ → Mistake → List ℕ
-refusal_line name m = line (message name m)
+abbrev pub refusal_line : List ℕ → Why → List ℕ
+refusal_line name w = line (message name w)
 
 abbrev pub vault_line : List ℕ
 vault_line = line (codes "vault failed")
@@ -49,18 +48,18 @@ pub record Accepts (words : List (String Global)) (texts : Texts) (ts : List (Li
   pub read : Read words texts name text
   pub program : reading name text ≡ Ok ts
 
--- reading it gives this fault
-pub record HasFault (words : List (String Global)) (texts : Texts) (name : List ℕ) (m : Mistake) : Type 0 where
+-- reading it gives no program, for this
+pub record HasFault (words : List (String Global)) (texts : Texts) (name : List ℕ) (w : Why) : Type 0 where
   pub text : List ℕ
   pub read : Read words texts name text
-  pub fault : reading name text ≡ Err m
+  pub fault : reading name text ≡ Err w
 
--- reading it gives a fault, and err is told so
+-- reading it gives no program, and err is told why
 pub record Refuses (words : List (String Global)) (texts : Texts) (tells : List ℕ → Type 0) : Type 0 where
   pub name : List ℕ
-  pub mistake : Mistake
-  pub found : HasFault words texts name mistake
-  pub told : tells (refusal_line name mistake)
+  pub why : Why
+  pub found : HasFault words texts name why
+  pub told : tells (refusal_line name why)
 
 -- the words ask for a module, whose reading failed, and err is told so
 pub record Fails (words : List (String Global)) (tells : List ℕ → Type 0) : Type 0 where
@@ -85,7 +84,7 @@ pub data Due (words : List (String Global)) (texts : Texts) : List ℕ → Type 
   out_of_memory : Due words texts memory_line
   usage : asked words ≡ None → Due words texts usage_line
   absent : {name : List ℕ} → asked words ≡ Some name → Due words texts (absent_line name)
-  refusal : {name : List ℕ} {m : Mistake} → HasFault words texts name m → Due words texts (refusal_line name m)
+  refusal : {name : List ℕ} {w : Why} → HasFault words texts name w → Due words texts (refusal_line name w)
   vault_fault : {name : List ℕ} → asked words ≡ Some name → Due words texts vault_line
   output_fault : {name : List ℕ} → asked words ≡ Some name → Due words texts output_line
 

@@ -1,5 +1,5 @@
 -- Worked examples of the words, of trees, of a text, and of a run.
-use Rattle.std.specs.Prelude.{◌≡◌, ℕ, false, true, List, [], ◌∷◌, ◌++◌, codes, Some, None, Ok, Err, refl}
+use Rattle.std.specs.Prelude.{◌≡◌, ℕ, false, List, [], ◌∷◌, ◌++◌, codes, Some, None, Ok, Err, refl}
 use Rattle.std.specs.Str.{chars, is_utf8}
 use Rattle.std.specs.Str.Lossy.{utf8_valid_len}
 use lib.Utf8.{encode}
@@ -22,9 +22,10 @@ use Rattle.qtt_syntax.specs.Tree.Module.{module_text}
 use Rattle.qtt_usage.specs.declared.mult.Mult.TheVariants as mult
 use Rattle.qtt_term.specs.Contraction.{contract}
 use Rattle.qtt_term.specs.FullRun.{Verdict}
-use Rattle.qtt_cli.specs.Words.{asked_in, reads_as_name}
+use Rattle.qtt_cli.specs.Words.{asked_in, name_in}
 use Rattle.qtt_cli.specs.Hello.{lines_of}
-use Rattle.qtt_cli.specs.Reading.{has_name, stands_alone, wrong_name, not_yet, tree_of_text, reading}
+use Rattle.qtt_diag.specs.Kept.{Detail}
+use Rattle.qtt_cli.specs.Reading.{Why, has_name, stands_alone, wrong_name, tree_of_text, reading}
 use Rattle.qtt_cli.specs.Smallest.{run_of, output}
 
 abbrev at : ℕ → Span
@@ -55,19 +56,20 @@ abbrev end : Token
 end = token kind.End []
 
 -- `Data.lists` is a name; `Main ` is none, since it has a blank behind it, and neither are `_`, `Type` and two names
-pub a_name : reads_as_name (codes "Data.lists") (Ok (named (codes "Data.lists") ∷ end ∷ [])) ≡ true
+pub a_name : name_in (codes "Data.lists") (Ok (named (codes "Data.lists") ∷ end ∷ []))
+    ≡ Some (codes "Data.lists")
 a_name = refl
 
-pub a_name_and_a_blank : reads_as_name (codes "Main ") (Ok (named (codes "Main") ∷ end ∷ [])) ≡ false
+pub a_name_and_a_blank : name_in (codes "Main ") (Ok (named (codes "Main") ∷ end ∷ [])) ≡ None
 a_name_and_a_blank = refl
 
-pub a_wildcard : reads_as_name (codes "_") (Ok (token kind.Wildcard (codes "_") ∷ end ∷ [])) ≡ false
+pub a_wildcard : name_in (codes "_") (Ok (token kind.Wildcard (codes "_") ∷ end ∷ [])) ≡ None
 a_wildcard = refl
 
-pub a_keyword : reads_as_name (codes "Type") (Ok (token kind.Type (codes "Type") ∷ end ∷ [])) ≡ false
+pub a_keyword : name_in (codes "Type") (Ok (token kind.Type (codes "Type") ∷ end ∷ [])) ≡ None
 a_keyword = refl
 
-pub two_names : reads_as_name (codes "a b") (Ok (named (codes "a") ∷ named (codes "b") ∷ end ∷ [])) ≡ false
+pub two_names : name_in (codes "a b") (Ok (named (codes "a") ∷ named (codes "b") ∷ end ∷ [])) ≡ None
 two_names = refl
 
 -- ---- trees
@@ -107,23 +109,23 @@ pub nothing_put : lines_of (hello []) ≡ None
 nothing_put = refl
 
 pub another_module : has_name (codes "Main") (module_text (at 1) (codes "Other") (at 8) [] []) ≡ Err
-    (wrong_name (codes "Other") (at 8))
+    (wrong_name (codes "Main") (codes "Other") (at 8))
 another_module = refl
 
 pub prim_is_no_program : has_name (codes "Prim") (module_text (at 1) (codes "Prim") (at 8) [] []) ≡ Err
-    (wrong_name (codes "Prim") (at 8))
+    (wrong_name (codes "Prim") (codes "Prim") (at 8))
 prim_is_no_program = refl
 
 pub an_import : stands_alone
     (module_text (at 1) (codes "Main") (at 8) (record { name = codes "Lists"; span = at 9 } ∷ []) [])
-    ≡ Err (not_yet (at 9))
+    ≡ Err (Why.not_yet (at 9))
 an_import = refl
 
 -- ---- texts
 
 -- the text without a byte ends too soon, at 1:1
 pub empty_text : reading (codes "Main") []
-    ≡ Err (record { kind = 8; span = record { line = 1; col = 1; len = 0 }; word = codes "end"; count = 0 })
+    ≡ Err (Why.refused (record { line = 1; col = 1; len = 0 }) (Detail.unexpected (codes "end")))
 unfolding reading tree_of_text lexed tokens_from utf8_valid_len chars laid put_from text_at module_at
     text_chain_at module_chain_at
 empty_text = refl

@@ -1,5 +1,5 @@
 -- The words of the command line.
-use Rattle.std.specs.Prelude.{ℕ, List, [], ◌∷◌, map, Option, Some, None, Bool, false, ◌&&◌, Result, Ok, Err, String, string_bytes, codes, if◌then◌else◌}
+use Rattle.std.specs.Prelude.{ℕ, List, [], ◌∷◌, map, Option, Some, None, Result, Ok, Err, String, string_bytes, codes, if◌then◌else◌}
 use Rattle.std.specs.Str.{bytes_eq}
 use Rattle.std.specs.declared.alloc.Global.{Global}
 use Rattle.qtt_lexer.specs.Lexed.{Mistake, lexed}
@@ -7,31 +7,31 @@ use Rattle.qtt_lexer.specs.declared.token.Token.{Token}
 use Rattle.qtt_lexer.specs.declared.token.TokenKind.{TokenKind}
 use Rattle.qtt_lexer.specs.declared.token.TokenKind.TheVariants as kind
 
--- the token is the name that this word is
-abbrev pub is_named : List ℕ → TokenKind → Bool
-is_named word (kind.Name name) = bytes_eq name word
-is_named word _ = false
+-- the word, where the token is the name that it is
+abbrev pub named : List ℕ → TokenKind → Option (List ℕ)
+named word (kind.Name name) = if bytes_eq name word then Some word else None
+named word _ = None
 
--- the tokens are that name and the end
-abbrev pub is_only_name : List ℕ → List Token → Bool
-is_only_name word [] = false
-is_only_name word (t ∷ []) = false
-is_only_name word (t ∷ end ∷ []) = is_named word t.kind
-is_only_name word (t ∷ end ∷ u ∷ more) = false
+-- the word, where the tokens are that name and the end
+abbrev pub only_name : List ℕ → List Token → Option (List ℕ)
+only_name word [] = None
+only_name word (t ∷ []) = None
+only_name word (t ∷ end ∷ []) = named word t.kind
+only_name word (t ∷ end ∷ u ∷ more) = None
 
-abbrev pub reads_as_name : List ℕ → Result (List Token) Mistake → Bool
-reads_as_name word (Ok tokens) = is_only_name word tokens
-reads_as_name word (Err m) = false
+abbrev pub name_in : List ℕ → Result (List Token) Mistake → Option (List ℕ)
+name_in word (Ok tokens) = only_name word tokens
+name_in word (Err m) = None
 
--- the word is a name, and no keyword and no wildcard
-unfoldable pub is_module_name : List ℕ → Bool
-is_module_name word = reads_as_name word (lexed word)
+-- the word, where it is a name, and no keyword and no wildcard
+unfoldable pub module_name : List ℕ → Option (List ℕ)
+module_name word = name_in word (lexed word)
 
 -- the name, where the words are `run` and a module's name
 abbrev pub asked_in : List (List ℕ) → Option (List ℕ)
 asked_in [] = None
 asked_in (command ∷ []) = None
-asked_in (command ∷ name ∷ []) = if bytes_eq command (codes "run") && is_module_name name then Some name else None
+asked_in (command ∷ name ∷ []) = if bytes_eq command (codes "run") then module_name name else None
 asked_in (command ∷ name ∷ word ∷ more) = None
 
 -- the module that the words ask to run

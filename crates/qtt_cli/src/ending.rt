@@ -5,30 +5,33 @@ ghost use Rattle.qtt_edge.specs.Sink.{AddsFront};
 ghost use Rattle.qtt_cli.specs.Answers.{Tells, absent_line, memory_line};
 ghost use Rattle.qtt_cli.specs.Endings.{Finishes, Reports};
 
-use crate::message::message;
-use qtt_base::Fault;
+use crate::message::{not_yet_line, refusal_line};
+use qtt_base::{MemoryError, Name, Span};
 use qtt_edge::{Sink, SinkError};
-use std::alloc::{AllocError, Global};
+use qtt_rules::Detail;
+use std::alloc::Global;
 
 /// How the work ended, with the name of the module where the line tells it.
 #[derive(Debug, Drop)]
-pub enum Ending<'a> {
+pub enum Ending {
     /// The program ran to its end.
     Ran,
     /// The words are none that the program knows.
     Usage,
     /// The vault has no such module.
-    Absent(&'a str),
-    /// The module's text is refused for its first fault.
-    Refused(&'a str, Fault),
+    Absent(Name),
+    /// The module's text is refused at this place, and this is kept.
+    Refused(Name, Span, Detail),
+    /// What stands at this place of the module's text is not built yet.
+    NotYet(Name, Span),
     VaultFailed,
     OutputFailed,
     Memory,
 }
 
 /// Tells of an ending on `err`, and gives its status.
-pub fn finish<E: Sink>(alloc: Global, err: &mut E, ending: Ending<'_>) -> u8
-    ensures { Finishes ending.entry result (E.content err.old) (E.content err.new)
+pub fn finish<E: Sink>(alloc: Global, err: &mut E, ending: Ending) -> u8
+    ensures { Finishes ending result (E.content err.old) (E.content err.new)
         (E.faults err.old) (E.faults err.new) }
 {
     match ending {
@@ -38,8 +41,11 @@ pub fn finish<E: Sink>(alloc: Global, err: &mut E, ending: Ending<'_>) -> u8
             64,
             b"usage: qtt COMMAND MODULE [--steps N] [--budget N] [--jobs N]\n",
         ),
-        Ending::Absent(name) => tell_made(err, 66, absent_line(alloc, name)),
-        Ending::Refused(name, fault) => tell_made(err, 1, message(alloc, name, &fault)),
+        Ending::Absent(name) => tell_made(err, 66, absent_line(alloc, &name)),
+        Ending::Refused(name, span, detail) => {
+            tell_made(err, 1, refusal_line(alloc, name, span, detail))
+        }
+        Ending::NotYet(name, span) => tell_made(err, 1, not_yet_line(alloc, &name, span)),
         Ending::VaultFailed => tell(err, 74, b"vault failed\n"),
         Ending::OutputFailed => tell(err, 74, b"output failed\n"),
         Ending::Memory => tell(err, 71, b"out of memory\n"),
@@ -47,14 +53,14 @@ pub fn finish<E: Sink>(alloc: Global, err: &mut E, ending: Ending<'_>) -> u8
 }
 
 /// The line that tells of a missing module.
-fn absent_line(alloc: Global, name: &str) -> Result<Vec<u8>, AllocError>
+fn absent_line(alloc: Global, name: &Name) -> Result<Vec<u8>, MemoryError>
     ensures { IfOk result (λ text. text.items ≡ absent_line name.now) }
 {
     Ok(format!(in alloc; "module {name} not found\n")?.into_bytes())
 }
 
 /// Puts a line, if there was memory for it, and gives the status, or that of want of memory.
-fn tell_made<E: Sink>(err: &mut E, status: u8, line: Result<Vec<u8>, AllocError>) -> u8
+fn tell_made<E: Sink>(err: &mut E, status: u8, line: Result<Vec<u8>, MemoryError>) -> u8
     ensures { MatchResult line
         (λ text. Reports status text.items result (E.content err.old) (E.content err.new)
         (E.faults err.old) (E.faults err.new))

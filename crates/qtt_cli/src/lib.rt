@@ -1,14 +1,16 @@
 //! The program, as one call over the outside that it is handed.
 //!
-//! What reading a text gives is one function of its bytes, a line a stage (`specs/Reading`).
+//! What reading a text gives is one function of its bytes, a line a stage (`specs/Reading`): the
+//! lines of its program, or why there is none, which is what a refusal keeps and its place, or
+//! that what stands there is not built yet.
 //! `qtt_main`: status 64 with the usage line exactly where the words are not a command and a
 //! module's name (`usage`, `usage_always`); 66 only where the vault's count of misses rose, and
 //! over a told vault only where the module is not there (`absent`); 1 exactly where reading
-//! gives a fault, with the message of that fault at its place (`refused`); 74 only where the
-//! faults of the vault or of the output rose (`failed`); else 0, and the output gains exactly
-//! what the full run of the text's main puts (`accepted`). With want of memory the output
-//! gained a front of that (`memory`). Texts, input and tapes are not touched. `laws`: the items
-//! of Prim that texts see are those of the core (`prim_agrees`), and smallest programs end
+//! gives no program, with the line that tells why (`refused`), as `qtt_diag` has it; 74 only
+//! where the faults of the vault or of the output rose (`failed`); else 0, and the output gains
+//! exactly what the full run of the text's main puts (`accepted`). With want of memory the
+//! output gained a front of that (`memory`). Texts, input and tapes are not touched. `laws`: the
+//! items of Prim that texts see are those of the core (`prim_agrees`), and smallest programs end
 //! (`smallest_programs_end`).
 #![tactic(auto)]
 
@@ -21,6 +23,7 @@ mod message;
 mod parts;
 mod read;
 mod runner;
+mod stage;
 mod words;
 mod work;
 

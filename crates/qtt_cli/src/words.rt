@@ -1,9 +1,9 @@
 //! The words of the command line.
 
-ghost use Rattle.std.specs.Prelude.{◌≡◌, ◌<◌, IfOk, option_map};
-ghost use Rattle.qtt_cli.specs.Words.{asked, is_module_name, is_only_name, is_named};
+ghost use Rattle.std.specs.Prelude.{◌≡◌, IfOk};
+ghost use Rattle.qtt_cli.specs.Words.{asked, module_name, named, only_name};
 
-use qtt_base::MemoryError;
+use qtt_base::{MemoryError, Name};
 use qtt_lexer::{LexError, Token, TokenKind, lex};
 use std::alloc::Global;
 
@@ -12,46 +12,45 @@ const MAX_WORD: usize = (1 << 29) - 1;
 
 /// The module that the words ask to run. A word of 2^29 bytes or more in its place is want of
 /// memory.
-pub fn asked_name(alloc: Global, words: &[String]) -> Result<Option<&str>, MemoryError>
-    ensures { IfOk result (λ found. option_map (λ name. name.now) found ≡ asked words.now) }
+pub fn asked_name(alloc: Global, words: &[String]) -> Result<Option<Name>, MemoryError>
+    ensures { IfOk result (λ name. name ≡ asked words.now) }
 {
     match words {
-        [command, name] if command.as_str() == "run" && is_module_name(alloc, name.as_str())? => {
-            Ok(Some(name.as_str()))
-        }
+        [command, name] if command.as_str() == "run" => module_name(alloc, name.as_str()),
         _ => Ok(None),
     }
 }
 
-/// Whether a word is the name of a module.
-fn is_module_name(alloc: Global, word: &str) -> Result<bool, MemoryError>
-    ensures { IfOk result (λ is. is ≡ is_module_name word.now) }
+/// The name of a module that a word is.
+fn module_name(alloc: Global, word: &str) -> Result<Option<Name>, MemoryError>
+    ensures { IfOk result (λ name. name ≡ module_name word.now) }
 {
     if word.len() > MAX_WORD {
         return Err(MemoryError);
     }
     match lex(alloc, word.as_bytes()) {
-        Ok(tokens) => Ok(is_only_name(word, &tokens)),
-        Err(LexError::Fault(_)) => Ok(false),
+        Ok(tokens) => only_name(word, &tokens),
+        Err(LexError::Fault(_)) => Ok(None),
         Err(LexError::Memory) => Err(MemoryError),
     }
 }
 
-/// Whether the tokens of a word are the name that it is, and the end.
-fn is_only_name(word: &str, tokens: &[Token]) -> bool
-    ensures { result ≡ is_only_name word.now tokens.now }
+/// The word, where its tokens are the name that it is, and the end.
+fn only_name(word: &str, tokens: &[Token]) -> Result<Option<Name>, MemoryError>
+    ensures { IfOk result (λ name. name ≡ only_name word.now tokens.now) }
 {
     match tokens {
-        [token, _] => is_named(word, &token.kind),
-        _ => false,
+        [token, _] => named(word, &token.kind),
+        _ => Ok(None),
     }
 }
 
-fn is_named(word: &str, kind: &TokenKind) -> bool
-    ensures { result ≡ is_named word.now kind.now }
+/// The word, where the token is the name that it is.
+fn named(word: &str, kind: &TokenKind) -> Result<Option<Name>, MemoryError>
+    ensures { IfOk result (λ name. name ≡ named word.now kind.now) }
 {
     match kind {
-        TokenKind::Name(name) => name.as_str() == word,
-        _ => false,
+        TokenKind::Name(name) if name.as_str() == word => Ok(Some(name.copy()?)),
+        _ => Ok(None),
     }
 }

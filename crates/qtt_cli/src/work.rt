@@ -13,17 +13,18 @@ use crate::errors::ReadError;
 use crate::read::{MAX_MODULE, read};
 use crate::runner::run;
 use crate::words::asked_name;
+use qtt_base::Name;
 use qtt_edge::{Sink, SinkError, Vault, VaultError};
 use qtt_prims::Text;
 use std::alloc::Global;
 
 /// Does what the words ask for, but tells nothing on `err`.
-pub fn work<'a, V: Vault, O: Sink>(
+pub fn work<V: Vault, O: Sink>(
     alloc: Global,
-    words: &'a [String],
+    words: &[String],
     vault: &mut V,
     out: &mut O,
-) -> Ending<'a>
+) -> Ending
     ensures ends { Ends words.now (V.texts vault.old)
         (record {
           vault = Rose (V.faults vault.old) (V.faults vault.new);
@@ -41,7 +42,7 @@ pub fn work<'a, V: Vault, O: Sink>(
     let Some(name) = asked else {
         return Ending::Usage;
     };
-    match vault.read(alloc, name, MAX_MODULE + 1) {
+    match vault.read(alloc, name.as_str(), MAX_MODULE + 1) {
         Ok(text) => run_text(alloc, name, &text, out),
         Err(VaultError::Absent) => Ending::Absent(name),
         Err(VaultError::Failed) => Ending::VaultFailed,
@@ -50,13 +51,14 @@ pub fn work<'a, V: Vault, O: Sink>(
 }
 
 /// Runs the program of a module's text.
-fn run_text<'a, O: Sink>(alloc: Global, name: &'a str, text: &[u8], out: &mut O) -> Ending<'a>
-    ensures { EndsText name.now text.now (Rose (O.faults out.old) (O.faults out.new))
+fn run_text<O: Sink>(alloc: Global, name: Name, text: &[u8], out: &mut O) -> Ending
+    ensures { EndsText name text.now (Rose (O.faults out.old) (O.faults out.new))
         (O.content out.old) (O.content out.new) result }
 {
-    let lines = match read(alloc, name, text) {
+    let lines = match read(alloc, &name, text) {
         Ok(lines) => lines,
-        Err(ReadError::Fault(fault)) => return Ending::Refused(name, fault),
+        Err(ReadError::Refused(span, detail)) => return Ending::Refused(name, span, detail),
+        Err(ReadError::NotYet(span)) => return Ending::NotYet(name, span),
         Err(ReadError::Memory) => return Ending::Memory,
     };
     match run_lines(alloc, lines, out) {

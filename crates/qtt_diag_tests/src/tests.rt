@@ -1,7 +1,7 @@
 //! Lines of refusals, with ample memory.
 
-use qtt_base::{Name, Quantity, Span};
-use qtt_diag::message;
+use qtt_base::{Fault, Name, Quantity, Span};
+use qtt_diag::{fault_detail, message};
 use qtt_rules::{Detail, Refusal};
 use qtt_syntax::{Mark, Named, Pattern, Target};
 use qtt_term::{Globals, Question, Rule, Term};
@@ -26,6 +26,26 @@ fn is_told(alloc: Global, detail: Detail, line: &str) -> Result<bool, Fail> {
         names: Globals::prim(alloc)?,
     };
     Ok(message(alloc, &refusal)?.as_slice() == line.as_bytes())
+}
+
+/// The line told of a fault of reading at that place.
+fn is_fault_told(
+    alloc: Global,
+    kind: u8,
+    word: &[u8],
+    count: u64,
+    line: &str,
+) -> Result<bool, Fail> {
+    let fault = Fault {
+        kind,
+        span: SPAN,
+        word: Vec::from_slice(alloc, word)?,
+        count,
+    };
+    match fault_detail(alloc, fault)? {
+        Some(detail) => is_told(alloc, detail, line),
+        None => Ok(false),
+    }
 }
 
 /// A pattern of a constructor of Main.
@@ -147,5 +167,20 @@ fn modules_and_holes_are_told(rt: HostRuntime) -> Result<(), Fail> {
             "Main:3:5: 38 CoreRefused f"
         )?
     );
+    Ok(())
+}
+
+#[test]
+fn faults_of_reading_are_told(rt: HostRuntime) -> Result<(), Fail> {
+    let alloc = rt.alloc();
+    let picture = "\u{1F600}".as_bytes();
+    assert!(rt; is_fault_told(alloc, 2, picture, 0, "Main:3:5: 2 BadCharacter U+1F600")?);
+    assert!(rt; is_fault_told(alloc, 7, b"", 0, "Main:3:5: 7 BadIndent")?);
+    assert!(rt; is_fault_told(alloc, 8, b"end", 0, "Main:3:5: 8 Unexpected end")?);
+    assert!(rt; is_fault_told(alloc, 11, b"inc", 0, "Main:3:5: 11 Ambiguous inc")?);
+    let statements = "Main:3:5: 31 Limit statements of a do 501";
+    assert!(rt; is_fault_told(alloc, 31, b"statements of a do", 501, statements)?);
+    assert!(rt; !is_fault_told(alloc, 31, b"statements", 501, statements)?);
+    assert!(rt; !is_fault_told(alloc, 14, b"", 0, "Main:3:5: 14 NeedsType")?);
     Ok(())
 }

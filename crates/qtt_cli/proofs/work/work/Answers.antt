@@ -1,4 +1,4 @@
-use Rattle.std.proofs.Common.{◌≡◌, ℕ, List, Bor, Option, Some, option_map, sym, ap, ◌∙◌}
+use Rattle.std.proofs.Common.{◌≡◌, Some, sym, ◌∙◌}
 use Rattle.qtt_edge.specs.Counts.{Rose}
 use Rattle.qtt_cli.specs.Words.{asked}
 use Rattle.qtt_cli.specs.Endings.{Faults}
@@ -9,10 +9,10 @@ pub returns-in-Ok-read-clause-ends : goal.returns-in-Ok-read-clause-ends
 returns-in-Ok-read-clause-ends g c =
     let words = c.args.words.now in
     let texts = g.V.Vault.texts c.args.vault.now in
-    let name = c.in-Some.name.now in
-    let shown : Option (Bor (List ℕ)) → Option (List ℕ) = λ found. option_map (λ n. n.now) found in
-    let asked_for : asked words ≡ Some name = sym c.in-Ok.ensures ∙ ap shown c.in-Some.is in
-    let whole = whole_text words texts name c.in-Ok-read.text asked_for c.in-Ok-read.ensures.reads in
+    let name = c.in-Some.name in
+    let asked_for : asked words ≡ Some name = sym c.in-Ok.ensures ∙ c.in-Some.is in
+    let whole =
+    whole_text words texts name c.in-Ok-read.text asked_for (rw c.as_str.ensures.value at c.in-Ok-read.ensures.reads) in
     let faults : Faults = record {
       vault = Rose (g.V.Vault.faults c.args.vault.now) (g.V.Vault.faults c.read.new.self);
       miss = Rose (g.V.Vault.misses c.args.vault.now) (g.V.Vault.misses c.read.new.self);

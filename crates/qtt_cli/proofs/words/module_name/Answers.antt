@@ -1,11 +1,11 @@
 use Rattle.std.proofs.Common.{rules}
-use Rattle.qtt_cli.specs.Words.{is_module_name}
-use Rattle.qtt_cli.proofs.words.is_module_name.Goals as goal
+use Rattle.qtt_cli.specs.Words.{module_name}
+use Rattle.qtt_cli.proofs.words.module_name.Goals as goal
 
 pub returns-in-Ok : goal.returns-in-Ok
-unfolding is_module_name
+unfolding module_name
 returns-in-Ok c = search rules
 
 pub returns-in-Err-Fault : goal.returns-in-Err-Fault
-unfolding is_module_name
+unfolding module_name
 returns-in-Err-Fault c = search rules
