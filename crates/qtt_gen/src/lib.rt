@@ -4,6 +4,8 @@
 //! last. Four for each number and `Main` (`laws::modules_are_counted`); each text is what the
 //! printer of module texts writes of its tree (`laws::texts_are_canonical`). Worked:
 //! `examples::texts_as_worked`.
+//!
+//! A theory: its lemmas may be cited.
 #![tactic(auto)]
 
 pub mod examples;

@@ -25,7 +25,7 @@ module _ (Fit : Word → Type 0) (wild : Fit (Word.named (codes "_"))) (pass : P
       (module_holds Fit wild pass (levels pass l) (levels pass i) l i (levels_hold Fit wild pass l)
       (levels_hold Fit wild pass i)).at ls t fair d
 
-  shown_module : (t : Module) → formed.Module_formed Fit pass l i t →
+  pub shown_module : (t : Module) → formed.Module_formed Fit pass l i t →
       Prints (IsModule pass (levels pass l) (levels pass i)) (say_module t) (λ u. bare_module u ≡ bare_module t)
   shown_module t f =
       let P : Level → Level → Type 0 =

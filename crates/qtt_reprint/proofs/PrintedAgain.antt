@@ -4,7 +4,6 @@ use Rattle.std.specs.Str.{chars}
 use Rattle.qtt_lexer.specs.Place.{start, place_after}
 use Rattle.qtt_lexer.specs.Lexed.{lexed}
 use Rattle.qtt_lexer.specs.declared.token.Token.{Token}
-use Rattle.qtt_lexer.proofs.Cutting.{lexed-text}
 use Rattle.qtt_layout.specs.Laws.{tokens_in, kept}
 use Rattle.qtt_layout.specs.Marks.{counted}
 use Rattle.qtt_layout.specs.Rules as rules
@@ -24,8 +23,8 @@ use Rattle.qtt_reprint.specs.Unplaced.{bare_module}
 use Rattle.qtt_reprint.proofs.Formed as formed
 use Rattle.qtt_reprint.proofs.Gives.{Each}
 use Rattle.qtt_reprint.proofs.Allowed.{IsFair}
-use Rattle.qtt_reprint.proofs.Again.{formed_module, words_read_again}
-use Rattle.qtt_reprint.proofs.TextForms.{text_forms}
+use Rattle.qtt_reprint.proofs.Again.{formed_module, shown_module}
+use Rattle.qtt_reprint.proofs.ItemsShown.{says_module}
 use Rattle.qtt_reprint.proofs.FairTexts.{wild, fair_text}
 use Rattle.qtt_reprint.proofs.Steps.{Fit, block_at, Goes}
 use Rattle.qtt_reprint.proofs.Steps.Left.{free}
@@ -63,6 +62,36 @@ laid_out t g =
           ap sketched (opens_module t);
     }
 
+-- The printed text of a tree is lexed and laid out, and read as the same tree in each pass in which the grammar allows
+-- the tree.
+pub record IsReadAgain (t : Module) : Type 0 where
+  pub tokens : List Token
+  pub are_lexed : lexed (printed t) ≡ Ok tokens
+  pub marks : List Laid
+  pub are_laid : laid tokens ≡ Ok marks
+  pub is_text : (pass : Pass) → formed.Module_formed Fit pass 200 199 t →
+      (u : Module) × IsText pass (lexemes marks) u None × (bare_module u ≡ bare_module t)
+
+says_text : (pass : Pass) (ms : List Laid) (t : Module) → formed.Module_formed Fit pass 200 199 t →
+    map unplaced (lexemes ms) ≡ sketched (module_words t) →
+    (u : Module) × IsText pass (lexemes ms) u None × (bare_module u ≡ bare_module t)
+unfolding IsText
+says_text pass ms t f e =
+    let p = (shown_module Fit wild pass 200 199 t f).at (lexemes ms) (e ∙ says_module t) in (p.0, p.1, p.2)
+
+-- a tree that the grammar allows, of words that can be written
+pub formed_read_again : (pass : Pass) (t : Module) → formed.Module_formed Fit pass 200 199 t → IsReadAgain t
+formed_read_again pass t f =
+    let g = module_goes wild pass 200 199 t f in
+    let x = laid_out t g in
+    record {
+      tokens = whole_tokens (behind_open t);
+      are_lexed = printed_lexed t g;
+      marks = x.marks;
+      are_laid = x.laid;
+      is_text = λ q h. says_text q x.marks t h x.words;
+    }
+
 text_formed : (pass : Pass) (ls : List Lexeme) (t : Module) → Each (IsFair Fit) ls → IsText pass ls t None
     → formed.Module_formed Fit pass 200 199 t
 unfolding IsText
@@ -74,8 +103,7 @@ pub printed_read_again : (pass : Pass) (bytes : List ℕ) (ts : List Token) (ms 
     → (us : List Token) × (ns : List Laid) × (u : Module) × (lexed (printed t) ≡ Ok us) ×
     (laid us ≡ Ok ns) × IsText pass (lexemes ns) u None × (bare_module u ≡ bare_module t)
 printed_read_again pass bytes ts ms t h e d =
-    let g = module_goes wild pass 200 199 t (text_formed pass (lexemes ms) t (fair_text bytes ts ms h e) d) in
-    let x = laid_out t g in
-    let r = words_read_again pass (lexemes ms) (lexemes x.marks) t
-    (text_forms bytes ts ms (lexed-text bytes ts h) e) d x.words in
-    (whole_tokens (behind_open t), x.marks, r.0, printed_lexed t g, x.laid, r.1, r.2)
+    let f = text_formed pass (lexemes ms) t (fair_text bytes ts ms h e) d in
+    let g = formed_read_again pass t f in
+    let r = g.is_text pass f in
+    (g.tokens, g.marks, r.0, g.are_lexed, g.are_laid, r.1, r.2)
