@@ -16,6 +16,3 @@ pub mod scope;
 
 pub use erasing::erase;
 pub use lean::{Lean, LeanBranch};
-
-#[cfg(test)]
-mod tests;

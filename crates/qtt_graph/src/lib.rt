@@ -18,6 +18,3 @@ mod ring;
 
 pub use errors::GraphError;
 pub use ranking::{is_whole, ranks};
-
-#[cfg(test)]
-mod tests;

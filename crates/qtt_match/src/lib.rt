@@ -13,6 +13,3 @@ pub mod laws;
 mod matching;
 
 pub use matching::first_match;
-
-#[cfg(test)]
-mod tests;

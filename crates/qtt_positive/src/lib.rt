@@ -14,6 +14,3 @@ pub mod laws;
 mod occurrence;
 
 pub use fields::{BadField, positive};
-
-#[cfg(test)]
-mod tests;

@@ -7,7 +7,7 @@ use qtt_term::telescopes::{
     branch_type, copied_binders, family_binders, filled_binders, joined, motive_binders, number,
     parameter_binders, result_type, self_type,
 };
-use qtt_term::{ConId, Ctx, Globals, Term};
+use qtt_term::{ConId, Constructor, Ctx, Family, Globals, Term};
 use qtt_usage::mult::Mult;
 use std::test::Fail;
 
@@ -64,6 +64,47 @@ fn environments_grow(rt: HostRuntime) -> Result<(), Fail> {
     assert_eq!(rt; globals.definitions().len(), 1);
     let copied = globals.copy(alloc)?;
     assert!(rt; copied.family(id).is_none());
+    Ok(())
+}
+
+#[test]
+fn families_are_given_constructors(rt: HostRuntime) -> Result<(), Fail> {
+    let alloc = rt.alloc();
+    let mut globals = Globals::prim(alloc)?;
+    let id = GlobalId {
+        module: ModuleId(1),
+        item: 0,
+    };
+    let zero = GlobalId {
+        module: ModuleId(1),
+        item: 1,
+    };
+    let family = Family {
+        id,
+        name: Name::new(alloc, "Main.Nat")?,
+        params: Vec::new(alloc),
+        indices: Vec::new(alloc),
+        level: 0,
+        constructors: Vec::new(alloc),
+    };
+    let constructor = Constructor {
+        id: zero,
+        name: Name::new(alloc, "Main.Z")?,
+        fields: Vec::new(alloc),
+        labels: Vec::new(alloc),
+        result: Vec::new(alloc),
+    };
+    let constructors = vec![in alloc; constructor]?;
+    assert!(rt; !globals.can_give(id, &constructors));
+    assert!(rt; globals.can_add(&family));
+    if globals.can_add(&family) {
+        globals.add_family(alloc, family)?;
+    }
+    assert!(rt; globals.can_give(id, &constructors));
+    if globals.can_give(id, &constructors) {
+        globals.set_constructors(alloc, id, constructors)?;
+    }
+    assert!(rt; globals.constructor(zero).is_some());
     Ok(())
 }
 

@@ -1,9 +1,9 @@
 //! Each form once, and each public call.
 
-use crate::erase;
-use crate::multiplicities::{act_mults, field_mults, places, prim_mults};
-use crate::scope::{Scope, Slot, argument_slot, field_slot};
 use qtt_base::{GlobalId, ModuleId};
+use qtt_erase::erase;
+use qtt_erase::multiplicities::{act_mults, field_mults, places, prim_mults};
+use qtt_erase::scope::{Scope, Slot, argument_slot, field_slot};
 use qtt_prims::{ActKind, Lit, Primitive};
 use qtt_term::globals::Globals;
 use qtt_term::{Branch, Case, ConId, Delete, Term};

@@ -1,7 +1,7 @@
 //! First matches of clauses over the families of Prim.
 
-use crate::first_match;
 use qtt_base::{GlobalId, ModuleId, Name, Span};
+use qtt_match::first_match;
 use qtt_syntax::{Clause, Expr, Mark, Named, Pattern, Target};
 use qtt_term::{ConId, Globals, Term};
 use std::alloc::Global;

@@ -1,7 +1,7 @@
 //! Ranks and rings of small builds.
 
-use crate::{GraphError, is_whole, ranks};
 use qtt_base::{Name, Span};
+use qtt_graph::{GraphError, is_whole, ranks};
 use qtt_syntax::{Import, ModuleText};
 use std::alloc::Global;
 use std::test::Fail;

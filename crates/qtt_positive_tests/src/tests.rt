@@ -1,7 +1,7 @@
 //! Strict positivity of families of the code.
 
-use crate::{BadField, positive};
 use qtt_base::{GlobalId, ModuleId, Name};
+use qtt_positive::{BadField, positive};
 use qtt_term::{Constructor, Family, Term};
 use qtt_usage::mult::Mult;
 use std::alloc::Global;
