@@ -79,9 +79,10 @@ fn two_circles_are_compared(rt: HostRuntime) -> Result<(), Fail> {
 fn aliases(alloc: Global) -> Result<String, Fail> {
     let mut text = String::new(alloc);
     text.push_str("a1 : Type\na1 = Int\n")?;
-    for number in 2..12 {
-        let before = number - 1;
+    let mut before = 1_u32;
+    for number in 2..12_u32 {
         write!(text, "a{number} : Type\na{number} = a{before}\n")?;
+        before = number;
     }
     text.push_str("x : a11\nx = 3")?;
     Ok(text)

@@ -61,6 +61,9 @@ fn it_has_the_recorded_type_and_the_uses_of_its_term(rt: HostRuntime) -> Result<
     };
     assert!(rt; is_printed(alloc, &globals, &found.core, "(Got x0)")?);
     assert!(rt; is_printed(alloc, &globals, &found.ty, "Line")?);
+    if found.usage.is_empty() {
+        return Err(Fail::from("the variable has no use"));
+    }
     assert_eq!(rt; found.usage.get(0), Mult::Many);
     Ok(())
 }
@@ -71,8 +74,10 @@ fn an_erased_variable_in_its_term_is_refused_at_run_time(rt: HostRuntime) -> Res
     let globals = Globals::prim(alloc)?;
     assert!(rt; standing(alloc, &globals, Mult::Zero, Sigma::Erased, Term::Var(0))?.is_ok());
     let refused = standing(alloc, &globals, Mult::Zero, Sigma::Run, Term::Var(0))?;
-    let Err(ElabError::Refused(Detail::ErasedUse { depth, core }, _, rule, premise)) = refused
-    else {
+    let Err(ElabError::Refused(detail, _, rule, premise)) = refused else {
+        return Err(Fail::from("the name is not refused"));
+    };
+    let Detail::ErasedUse { depth, core } = detail else {
         return Err(Fail::from("the name is not refused as erased"));
     };
     assert_eq!(rt; depth, 1);
@@ -105,9 +110,10 @@ fn a_question_about_its_term_is_spent_at_the_name(rt: HostRuntime) -> Result<(),
     add_circle(alloc, &mut globals, item(0), Term::Sort(0))?;
     add_circle(alloc, &mut globals, item(1), Term::Def(item(0)))?;
     let refused = standing(alloc, &globals, Mult::Many, Sigma::Run, Term::Def(item(1)))?;
-    let Err(ElabError::Refused(Detail::BudgetSpent { budget, question }, _, rule, premise)) =
-        refused
-    else {
+    let Err(ElabError::Refused(detail, _, rule, premise)) = refused else {
+        return Err(Fail::from("the name is not refused"));
+    };
+    let Detail::BudgetSpent { budget, question } = detail else {
         return Err(Fail::from("no question is spent"));
     };
     assert_eq!(rt; budget, 5);

@@ -44,7 +44,10 @@ fn item(number: u32) -> GlobalId {
 
 /// A number that stands so far behind another.
 fn behind(number: u32, count: usize) -> Result<u32, Fail> {
-    match number.checked_add(count as u32) {
+    let Ok(count) = u32::try_from(count) else {
+        return Err(Fail::from("too many items for a test"));
+    };
+    match number.checked_add(count) {
         Some(number) => Ok(number),
         None => Err(Fail::from("too many items for a test")),
     }
