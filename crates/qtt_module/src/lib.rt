@@ -19,10 +19,43 @@
 //! Worked: `examples::families_as_worked`, `mains_as_worked`, `modules_as_worked`,
 //! `modules_declared_as_worked`.
 //!
-//! The calls that judge a module are not there yet.
+//! In code, within a budget for each question and exactly but for want of memory: families and
+//! signatures are judged and put into the environment (`additions`), where the constructors of a
+//! family are judged in place, while it stands there without any; a definition by clauses gives
+//! its body or its holes (`groups`), which asks whether its tree covers and reaches (`coverage`),
+//! what each clause gives at each of its leaves (`sides`), and for the last judgement of the body
+//! (`bodies`); where no clause has a hole, a definition that stands there with its signature alone
+//! is given that body (`given_bodies`); items are gathered to what they declare
+//! (`declarations`); and a main is tested (`main_test`). What ends so is the table's: an answer,
+//! its first premise that is false, or its first question that is spent.
+//!
+//! The call that judges a module is not there yet.
 //!
 //! A theory: its lemmas may be cited.
 #![tactic(auto)]
 
+mod accepting;
+mod additions;
+mod binders;
+mod bodies;
+mod chains;
+mod constructors;
+mod contexts;
+mod coverage;
+mod declaration;
+mod declarations;
+mod declarer;
 pub mod examples;
+mod families;
+mod given_bodies;
+mod groups;
+mod heads;
 pub mod laws;
+mod main_test;
+mod names;
+mod pattern_parts;
+mod sides;
+mod signatures;
+mod signed;
+mod tails;
+mod tree_leaves;
