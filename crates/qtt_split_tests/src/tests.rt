@@ -7,3 +7,4 @@ mod plans;
 mod reading;
 mod table;
 mod terms;
+mod wide;

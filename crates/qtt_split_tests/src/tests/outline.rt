@@ -85,3 +85,26 @@ pub fn outline(alloc: Global, tree: &Tree) -> Result<String, Fail> {
     add_tree(alloc, &mut out, tree)?;
     Ok(out)
 }
+
+/// How many leaves a tree has.
+#[cycle(leaves)]
+pub fn count_leaves(tree: &Tree) -> Result<u32, Fail> {
+    match tree {
+        Tree::Leaf(_) => Ok(1),
+        Tree::Split(_, branches) => count_among(branches),
+        Tree::Delete(_, _, tree) => count_leaves(tree),
+        Tree::Absurd(_) | Tree::Missing { .. } => Ok(0),
+    }
+}
+
+#[cycle(leaves)]
+fn count_among(branches: &[Branch]) -> Result<u32, Fail> {
+    let mut count: u32 = 0;
+    for branch in branches {
+        let Some(more) = count.checked_add(count_leaves(&branch.tree)?) else {
+            return Err(Fail::from("there are too many leaves"));
+        };
+        count = more;
+    }
+    Ok(count)
+}

@@ -3,6 +3,7 @@
 use super::environment::known;
 use super::outline::outline;
 use super::reading::clauses;
+use qtt_base::Name;
 use qtt_conv::BySubst;
 use qtt_rules::ElabError;
 use qtt_split::{Planned, plan};
@@ -31,6 +32,8 @@ pub struct Table {
     pub alloc: Global,
     globals: Globals,
     pub sigma: Sigma,
+    /// The names of the signature's written binders.
+    pub labels: Vec<Name>,
     /// An answer that is another than its row's.
     pub wrong: Option<String>,
 }
@@ -41,6 +44,7 @@ impl Table {
             alloc,
             globals: known(alloc)?,
             sigma: Sigma::Run,
+            labels: Vec::new(alloc),
             wrong: None,
         })
     }
@@ -59,7 +63,7 @@ impl Table {
             self.sigma,
             &clauses,
             ty,
-            &[],
+            &self.labels,
         ))
     }
 
