@@ -15,6 +15,8 @@ use crate::scope::Scope;
 use qtt_base::{GlobalId, Span};
 use qtt_rules::{Detail, ElabError};
 use qtt_term::{Converter, Head, IoKind, Question, Rule, Term};
+use std::alloc::Global;
+use std::mem;
 
 /// The form of a head that is looked for.
 #[derive(Clone, Copy, Debug)]
@@ -29,34 +31,34 @@ pub enum HeadForm {
 fn as_sort(head: Term) -> Option<u32>
     ensures { result ≡ sort_seen (term head) }
 {
-    match head {
-        Term::Sort(level) => Some(level),
+    match &head {
+        Term::Sort(level) => Some(*level),
         _ => None,
     }
 }
 
 /// A function type taken apart.
-fn as_function(head: Term) -> Option<FunctionType>
+fn as_function(mut head: Term) -> Option<FunctionType>
     ensures { option_map function result ≡ function_seen (term head) }
 {
-    match head {
+    match &mut head {
         Term::Pi(mult, domain, codomain) => Some(FunctionType {
-            mult,
-            domain: Box::into_inner(domain),
-            codomain: Box::into_inner(codomain),
+            mult: *mult,
+            domain: domain.take(),
+            codomain: codomain.take(),
         }),
         _ => None,
     }
 }
 
 /// What this family is applied to.
-fn as_family(id: GlobalId, head: Term) -> Option<Vec<Term>>
+fn as_family(alloc: Global, id: GlobalId, mut head: Term) -> Option<Vec<Term>>
     ensures { option_map (λ v. side_by_side (terms v.items)) result ≡ family_seen id (term head) }
 {
-    match head {
+    match &mut head {
         Term::Fam(found, values) => {
-            if same_id(id, found) {
-                Some(values)
+            if same_id(id, *found) {
+                Some(mem::replace(values, Vec::new(alloc)))
             } else {
                 None
             }
@@ -66,26 +68,26 @@ fn as_family(id: GlobalId, head: Term) -> Option<Vec<Term>>
 }
 
 /// A type of actions taken apart.
-fn as_action(head: Term) -> Option<ActionType>
+fn as_action(mut head: Term) -> Option<ActionType>
     ensures { option_map action_as result ≡ action_seen (term head) }
 {
-    match head {
+    match &mut head {
         Term::IoTy(kind, result) => Some(ActionType {
-            kind,
-            result: Box::into_inner(result),
+            kind: *kind,
+            result: result.take(),
         }),
         _ => None,
     }
 }
 
 /// The type of the result of actions of this kind.
-fn as_action_of(kind: IoKind, head: Term) -> Option<Term>
+fn as_action_of(kind: IoKind, mut head: Term) -> Option<Term>
     ensures { option_map term result ≡ result_seen (io kind) (term head) }
 {
-    match head {
+    match &mut head {
         Term::IoTy(found, result) => {
-            if same_kind(kind, found) {
-                Some(Box::into_inner(result))
+            if same_kind(kind, *found) {
+                Some(result.take())
             } else {
                 None
             }
@@ -196,7 +198,7 @@ impl<'a, C: Converter> Elaborator<'a, C> {
             .converter
             .head(self.alloc, self.budget, self.globals, ty)?
         {
-            Head::Done(head, _) => match as_family(id, head) {
+            Head::Done(head, _) => match as_family(self.alloc, id, head) {
                 Some(seen) => Ok(seen),
                 None => Err(self.other_form(HeadForm::Family, depth, ty, span, rule, number)),
             },

@@ -1,29 +1,46 @@
 //! The components of a term, in order.
 
-ghost use Rattle.std.specs.Prelude.{◌≡◌, ◌++◌, map, IfOk};
+ghost use Rattle.std.specs.Prelude.{◌≡◌, ◌++◌, ◌∷◌, [], map, IfOk};
 ghost use Rattle.qtt_term.specs.View.{term, terms, case, delete, branches as branches_of, side_by_side};
 ghost use Rattle.qtt_confluence.specs.Heads.{parts};
 
 use qtt_base::MemoryError;
 use qtt_term::{Branch, Case, Delete, Term};
 use std::alloc::Global;
+use std::mem;
 
 /// The components, in the order of their numbers.
 #[tactic(auto, using(crate::proofs::Parts::part_lists))]
-pub fn components(alloc: Global, t: Term) -> Result<Vec<Term>, MemoryError>
+pub fn components(alloc: Global, mut t: Term) -> Result<Vec<Term>, MemoryError>
     ensures { IfOk result (λ v. side_by_side (terms v.items) ≡ parts (term t)) }
 {
-    match t {
-        Term::Pi(_, a, b) | Term::Lam(_, a, b) | Term::App(_, a, b) => {
-            Ok(vec![in alloc; Box::into_inner(a), Box::into_inner(b)]?)
-        }
-        Term::Fam(_, all) | Term::Prim(_, all) => Ok(all),
-        Term::Con(_, front, back) | Term::Act(_, front, back) => joined(front, back),
-        Term::Case(case) => case_components(alloc, Box::into_inner(case)),
-        Term::Delete(delete) => delete_components(alloc, Box::into_inner(delete)),
-        Term::IoTy(_, a) | Term::Trap(a) => Ok(vec![in alloc; Box::into_inner(a)]?),
+    match &mut t {
+        Term::Pi(_, a, b) => pair(alloc, a, b),
+        Term::Lam(_, a, b) => pair(alloc, a, b),
+        Term::App(_, a, b) => pair(alloc, a, b),
+        Term::Fam(_, all) => Ok(emptied(alloc, all)),
+        Term::Prim(_, all) => Ok(emptied(alloc, all)),
+        Term::Con(_, front, back) => joined(emptied(alloc, front), emptied(alloc, back)),
+        Term::Act(_, front, back) => joined(emptied(alloc, front), emptied(alloc, back)),
+        Term::Case(case) => case_components(alloc, case),
+        Term::Delete(delete) => delete_components(alloc, delete),
+        Term::IoTy(_, a) => Ok(vec![in alloc; a.take()]?),
+        Term::Trap(a) => Ok(vec![in alloc; a.take()]?),
         _ => Ok(Vec::new(alloc)),
     }
+}
+
+fn pair(alloc: Global, one: &mut Term, other: &mut Term) -> Result<Vec<Term>, MemoryError>
+    ensures { IfOk result (λ v. v.items ≡ one.old ∷ other.old ∷ []) }
+{
+    Ok(vec![in alloc; one.take(), other.take()]?)
+}
+
+/// What a list holds, which is empty then.
+fn emptied<T>(alloc: Global, items: &mut Vec<T>) -> Vec<T>
+    ensures { result ≡ items.old }
+{
+    mem::replace(items, Vec::new(alloc))
 }
 
 fn joined(mut front: Vec<Term>, mut back: Vec<Term>) -> Result<Vec<Term>, MemoryError>
@@ -34,22 +51,13 @@ fn joined(mut front: Vec<Term>, mut back: Vec<Term>) -> Result<Vec<Term>, Memory
 }
 
 #[tactic(auto, using(crate::proofs::Parts::part_lists))]
-fn case_components(alloc: Global, source: Case) -> Result<Vec<Term>, MemoryError>
-    ensures { IfOk result (λ v. side_by_side (terms v.items) ≡ parts (case source)) }
+fn case_components(alloc: Global, source: &mut Case) -> Result<Vec<Term>, MemoryError>
+    ensures { IfOk result (λ v. side_by_side (terms v.items) ≡ parts (case source.old)) }
 {
-    let Case {
-        mult: _,
-        family: _,
-        params,
-        indices: _,
-        motive,
-        branches,
-        scrutinee,
-    } = source;
-    let mut all = params;
-    all.push(motive)?;
-    all.append(&mut bodies(alloc, branches)?)?;
-    all.push(scrutinee)?;
+    let mut all = emptied(alloc, &mut source.params);
+    all.push(source.motive.take())?;
+    all.append(&mut bodies(alloc, emptied(alloc, &mut source.branches))?)?;
+    all.push(source.scrutinee.take())?;
     Ok(all)
 }
 
@@ -64,16 +72,12 @@ fn bodies(alloc: Global, branches: Vec<Branch>) -> Result<Vec<Term>, MemoryError
 }
 
 #[tactic(auto, using(crate::proofs::Parts::part_lists))]
-fn delete_components(alloc: Global, source: Delete) -> Result<Vec<Term>, MemoryError>
-    ensures { IfOk result (λ v. side_by_side (terms v.items) ≡ parts (delete source)) }
+fn delete_components(alloc: Global, source: &mut Delete) -> Result<Vec<Term>, MemoryError>
+    ensures { IfOk result (λ v. side_by_side (terms v.items) ≡ parts (delete source.old)) }
 {
-    let Delete {
-        mult: _,
-        ty,
-        point,
-        motive,
-        branch,
-        scrutinee,
-    } = source;
-    Ok(vec![in alloc; ty, point, motive, branch, scrutinee]?)
+    let ty = source.ty.take();
+    let point = source.point.take();
+    let motive = source.motive.take();
+    let branch = source.branch.take();
+    Ok(vec![in alloc; ty, point, motive, branch, source.scrutinee.take()]?)
 }

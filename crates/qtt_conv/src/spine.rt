@@ -74,15 +74,15 @@ fn resumed(alloc: Global, mut frames: Vec<Frame>, contracted: Term) -> Result<Sp
     ensures whole { IfOk result (λ s. whole s ≡ plug_all frames.items (term contracted)) }
     ensures settled { IfOk result (λ s. IsSettled s) }
 {
-    match contracted {
-        Term::Lit(literal) => match frames.pop() {
+    match &contracted {
+        Term::Lit(_) => match frames.pop() {
             Some(frame) => {
-                let inner = frame.plugged(alloc, Term::Lit(literal))?;
+                let inner = frame.plugged(alloc, contracted)?;
                 entered(alloc, frames, &inner)
             }
-            None => entered(alloc, frames, &Term::Lit(literal)),
+            None => entered(alloc, frames, &contracted),
         },
-        other => entered(alloc, frames, &other),
+        other => entered(alloc, frames, other),
     }
 }
 

@@ -254,14 +254,25 @@ fn applied(alloc: Global, count: u32) -> Result<Term, Fail> {
     Ok(call)
 }
 
-/// What stands below all arguments. The applications are let go one by one from outside, which
-/// takes no stack.
-fn innermost(t: Term) -> Term {
+/// What stands below all arguments, or below so many. The applications are let go one by one from
+/// outside, which takes no stack.
+fn innermost(t: Term, most: u32) -> Term {
     let mut inner = t;
-    while let Term::App(_, function, _) = inner {
-        inner = Box::into_inner(function);
+    for _ in 0..most {
+        match function_of(&mut inner) {
+            Some(function) => inner = function,
+            None => return inner,
+        }
     }
     inner
+}
+
+/// What an application applies, out of its place.
+fn function_of(t: &mut Term) -> Option<Term> {
+    match t {
+        Term::App(_, function, _) => Some(function.take()),
+        _ => None,
+    }
 }
 
 #[test]
@@ -271,12 +282,12 @@ fn heads_are_found_deep_in_function_place(rt: HostRuntime) -> Result<(), Fail> {
     let deep = applied(alloc, 200_000)?;
     let head = BySubst.head(alloc, 1, &env, &deep)?;
     let function = identity(alloc, Mult::Many, Term::IntTy)?;
-    assert!(rt; innermost(deep).same(&function));
+    assert!(rt; innermost(deep, u32::MAX).same(&function));
     let Head::Done(found, made) = head else {
         return Err(Fail::from("spent"));
     };
     assert_eq!(rt; made, 1);
-    assert!(rt; innermost(found).same(&Term::Var(0)));
+    assert!(rt; innermost(found, u32::MAX).same(&Term::Var(0)));
     Ok(())
 }
 

@@ -1,11 +1,12 @@
 //! Premises of the rules.
 
-ghost use Rattle.std.specs.Prelude.{◌≡◌, ◌+◌, ◌<◌, IfOk, MatchResult, length};
+ghost use Rattle.std.specs.Prelude.{◌≡◌, ◌+◌, ◌<◌, IfOk, IfSome, MatchResult, length, option_map};
 ghost use Rattle.qtt_usage.specs.Mult.{same_mult};
 ghost use Rattle.qtt_term.specs.View.{term, terms, side_by_side};
 ghost use Rattle.qtt_term.specs.Contexts.{part};
 ghost use Rattle.qtt_term.specs.Judgement.{under};
-ghost use Rattle.qtt_term.specs.Infer.{at, usable, use_at, agree, sort_of, function_of, family_of};
+ghost use Rattle.qtt_term.specs.Infer.{at, usable, use_at, agree, sort_of, function_of, family_of, as_family as family_seen};
+ghost use Rattle.qtt_term.specs.Forms.{as_function as function_seen};
 ghost use Rattle.qtt_term.specs.Term.{same_id};
 ghost use Rattle.qtt_core_check.specs.Seen.{ctx, function};
 ghost use Rattle.qtt_core_check.specs.Calls.{Answers};
@@ -18,6 +19,7 @@ use qtt_term::{Answer, Converter, Globals, Head, Question, Rule, Sigma, Term};
 use qtt_usage::mult::Mult;
 use qtt_usage::usage::{Usage, UsageError};
 use std::alloc::Global;
+use std::mem;
 
 /// What the judgement is given: an answerer of questions with its contractions for each, and the
 /// environment.
@@ -35,6 +37,37 @@ pub struct FunctionType {
     pub mult: Mult,
     pub domain: Term,
     pub codomain: Term,
+}
+
+fn as_function(mut head: Term) -> Option<FunctionType>
+    ensures { option_map function result ≡ function_seen (term head) }
+{
+    match &mut head {
+        Term::Pi(mult, domain, codomain) => Some(FunctionType {
+            mult: *mult,
+            domain: domain.take(),
+            codomain: codomain.take(),
+        }),
+        _ => None,
+    }
+}
+
+/// The components of this family, where there are so many.
+fn as_family(alloc: Global, id: GlobalId, count: usize, mut head: Term) -> Option<Vec<Term>>
+    ensures gives { option_map (λ v. side_by_side (terms v.items)) result
+        ≡ family_seen id count (term head) }
+    ensures len { IfSome result (λ v. length v.items ≡ count) }
+{
+    match &mut head {
+        Term::Fam(found, args) => {
+            if same_id(id, *found) && args.len() == count {
+                Some(mem::replace(args, Vec::new(alloc)))
+            } else {
+                None
+            }
+        }
+        _ => None,
+    }
 }
 
 /// The part of what stands under a multiplicity.
@@ -137,11 +170,11 @@ impl<'a, C: Converter> Checker<'a, C> {
             result }
     {
         let depth = scope.depth()?;
-        match self
+        let found = self
             .converter
-            .head(self.alloc, self.budget, self.globals, ty)?
-        {
-            Head::Done(Term::Sort(level), _) => Ok(level),
+            .head(self.alloc, self.budget, self.globals, ty)?;
+        match &found {
+            Head::Done(Term::Sort(level), _) => Ok(*level),
             Head::Done(_, _) => Err(CoreRefusal::Fails(rule, number)),
             Head::Spent => Err(CoreRefusal::Spent(Question::Head(depth, ty.copy(self.alloc)?))),
         }
@@ -165,12 +198,10 @@ impl<'a, C: Converter> Checker<'a, C> {
             .converter
             .head(self.alloc, self.budget, self.globals, ty)?
         {
-            Head::Done(Term::Pi(mult, domain, codomain), _) => Ok(FunctionType {
-                mult,
-                domain: Box::into_inner(domain),
-                codomain: Box::into_inner(codomain),
-            }),
-            Head::Done(_, _) => Err(CoreRefusal::Fails(rule, number)),
+            Head::Done(head, _) => match as_function(head) {
+                Some(seen) => Ok(seen),
+                None => Err(CoreRefusal::Fails(rule, number)),
+            },
             Head::Spent => Err(CoreRefusal::Spent(Question::Head(depth, ty.copy(self.alloc)?))),
         }
     }
@@ -194,14 +225,10 @@ impl<'a, C: Converter> Checker<'a, C> {
             .converter
             .head(self.alloc, self.budget, self.globals, ty)?
         {
-            Head::Done(Term::Fam(found, args), _) => {
-                if same_id(id, found) && args.len() == count {
-                    Ok(args)
-                } else {
-                    Err(CoreRefusal::Fails(premise.0, premise.1))
-                }
-            }
-            Head::Done(_, _) => Err(CoreRefusal::Fails(premise.0, premise.1)),
+            Head::Done(head, _) => match as_family(self.alloc, id, count, head) {
+                Some(seen) => Ok(seen),
+                None => Err(CoreRefusal::Fails(premise.0, premise.1)),
+            },
             Head::Spent => Err(CoreRefusal::Spent(Question::Head(depth, ty.copy(self.alloc)?))),
         }
     }

@@ -28,14 +28,14 @@ struct FunctionType {
 }
 
 /// The function type that a head is.
-fn as_function(head: Term) -> Option<FunctionType>
+fn as_function(mut head: Term) -> Option<FunctionType>
     ensures { option_map function_of result ≡ function_at (term head) }
 {
-    match head {
+    match &mut head {
         Term::Pi(mult, domain, codomain) => Some(FunctionType {
-            mult,
-            domain: Box::into_inner(domain),
-            codomain: Box::into_inner(codomain),
+            mult: *mult,
+            domain: domain.take(),
+            codomain: codomain.take(),
         }),
         _ => None,
     }

@@ -7,6 +7,7 @@ use qtt_base::{GlobalId, MemoryError};
 use qtt_prims::{ActKind, Lit, Primitive};
 use qtt_usage::mult::Mult;
 use std::alloc::{AllocError, AllocFailed, Global};
+use std::mem;
 use thiserror::Error;
 
 /// Want of memory. An index that would reach 2^31 counts as one.
@@ -53,7 +54,7 @@ pub struct ConId {
 }
 
 /// A core term. Variables are de Bruijn indices.
-#[derive(Debug, Drop)]
+#[derive(Debug)]
 #[cycle(term)]
 pub enum Term {
     Var(u32),
@@ -80,6 +81,29 @@ pub enum Term {
     Trap(Box<Term>),
     /// An open file handle of a run; no text makes one.
     Tape(u32),
+}
+
+// By hand: a value that is given up is then one call for the proof, not a case for each form.
+impl Drop for Term {
+    #[cycle(dropped)]
+    fn drop(self) {
+        match self {
+            Term::Var(_) | Term::Sort(_) | Term::Def(_) | Term::Tape(_) => {}
+            Term::IntTy | Term::StringTy | Term::HandleTy => {}
+            Term::Pi(_, _domain, _codomain) => {}
+            Term::Lam(_, _domain, _body) => {}
+            Term::App(_, _function, _argument) => {}
+            Term::Fam(_, _arguments) => {}
+            Term::Con(_, _params, _fields) => {}
+            Term::Case(_case) => {}
+            Term::Delete(_delete) => {}
+            Term::Lit(_lit) => {}
+            Term::IoTy(_, _result) => {}
+            Term::Prim(_, _arguments) => {}
+            Term::Act(_, _types, _arguments) => {}
+            Term::Trap(_ty) => {}
+        }
+    }
 }
 
 /// One branch of a Case, under the fields of its constructor.
@@ -136,5 +160,12 @@ impl Term {
         ensures { IfOk result (λ t. term t ≡ App mult (term function) (term argument)) }
     {
         Ok(Term::App(mult, Box::new(alloc, function)?, Box::new(alloc, argument)?))
+    }
+
+    /// Takes the term out of its place, where `Int` stands then.
+    pub fn take(&mut self) -> Term
+        ensures { result ≡ self.old }
+    {
+        mem::replace(self, Term::IntTy)
     }
 }

@@ -5,9 +5,10 @@ use Rattle.qtt_term.specs.declared.term.Term as code
 use Rattle.qtt_term.specs.declared.term.ConId.{ConId}
 use Rattle.qtt_term.specs.Term.{Form, Term, Terms, node, ◌▸◌, ◌+++◌}
 use Rattle.qtt_term.specs.Signature.{Env, family_at}
-use Rattle.qtt_term.specs.Question.{Head, weight, weights}
+use Rattle.qtt_term.specs.Question.{Head, head_step, weight, weights}
 use Rattle.qtt_term.specs.Reading.{is_plain, read_step, read_from, read}
 use Rattle.qtt_term.specs.View.{term, terms, side_by_side}
+use Rattle.qtt_unify.specs.declared.reading.Applied.{Applied}
 use Rattle.qtt_unify.specs.declared.reading.Pending.{Pending}
 use Rattle.qtt_unify.specs.declared.reading.Reading.{Reading}
 use Rattle.qtt_unify.specs.declared.reading.Round.{Round}
@@ -63,6 +64,12 @@ unread r = weight (term r.focus) + behinds r.around.items
 -- the reading of t within n contractions goes on with that of s within k
 abbrev pub GoesOn : Env → ℕ → Term → ℕ → Term → Type 0
 GoesOn E n t k s = (made : ℕ) → (more : ℕ) × (read_from E n made t ≡ read_from E k more s)
+
+-- a constructor of a plain family was taken apart, or else the head is what it was
+abbrev pub TakenApart : Env → code.Term → code.Term → Option Applied → Type 0
+TakenApart E t u (Some a) =
+    (term t ≡ con_of a.con a.params.items a.fields.items) × (is_plain (family_at E a.con.family) ≡ true)
+TakenApart E t u None = (term u ≡ term t) × (head_step E (term t) ≡ None → read_step E (term t) ≡ None)
 
 -- it is read, or something else is to be read next, which weighs less than a bound
 abbrev pub StepsTo : Env → Term → ℕ → Step → Type 0

@@ -8,12 +8,13 @@ ghost use Rattle.qtt_term.specs.Reading.{read_step, is_plain as plain};
 ghost use Rattle.qtt_term.specs.Signature.{Env, family_at};
 ghost use Rattle.qtt_term.specs.View.{term};
 ghost use Rattle.qtt_term.specs.Answers.{head as head_of};
-ghost use Rattle.qtt_unify.specs.Unread.{con_of, plug_all, whole, ArePending, behinds, unread, StepsTo, RoundTo, TakesTo, ReadTo};
+ghost use Rattle.qtt_unify.specs.Unread.{con_of, plug_all, whole, ArePending, behinds, unread, TakenApart, StepsTo, RoundTo, TakesTo, ReadTo};
 
 use crate::plain::is_plain;
 use qtt_base::MemoryError;
 use qtt_term::{ConId, Converter, Globals, Head, Term};
 use std::alloc::Global;
+use std::mem;
 
 /// A constructor of a plain family without the field that is being read: the fields before it are
 /// read, and those behind it are not, the last of them first.
@@ -23,6 +24,14 @@ pub struct Pending {
     params: Vec<Term>,
     before: Vec<Term>,
     behind: Vec<Term>,
+}
+
+/// A constructor and what it is applied to.
+#[derive(Drop)]
+pub struct Applied {
+    con: ConId,
+    params: Vec<Term>,
+    fields: Vec<Term>,
 }
 
 /// An index on the way to its reading: what is to be read next, and the constructors around it,
@@ -150,7 +159,7 @@ fn head_within<C: Converter>(
 fn past_head(
     alloc: Global,
     env: &Globals,
-    head: Term,
+    mut head: Term,
     around: Vec<Pending>,
 ) -> Result<Step, MemoryError>
     requires head { head_step (env_of env.now) (term head) ≡ None }
@@ -159,15 +168,33 @@ fn past_head(
         (λ s. StepsTo (env_of env.now) (plug_all around.items (term head))
         (weight (term head) + behinds around.items) s) }
 {
+    match taken_apart(alloc, env, &mut head)? {
+        Some(applied) => into_fields(alloc, applied.con, applied.params, applied.fields, around),
+        None => gone_on(head, around),
+    }
+}
+
+/// Takes a constructor of a plain family apart. What else is there stays.
+fn taken_apart(
+    alloc: Global,
+    env: &Globals,
+    head: &mut Term,
+) -> Result<Option<Applied>, MemoryError>
+    ensures { IfOk result (λ a. TakenApart (env_of env.now) head.old head.new a) }
+{
     match head {
         Term::Con(con, params, fields) => {
             if is_plain(env, con.family)? {
-                into_fields(alloc, con, params, fields, around)
+                Ok(Some(Applied {
+                    con: *con,
+                    params: mem::replace(params, Vec::new(alloc)),
+                    fields: mem::replace(fields, Vec::new(alloc)),
+                }))
             } else {
-                gone_on(Term::Con(con, params, fields), around)
+                Ok(None)
             }
         }
-        other => gone_on(other, around),
+        _ => Ok(None),
     }
 }
 

@@ -1,6 +1,5 @@
 use Rattle.std.proofs.Common.{ap, ◌∙◌, sym}
 use Rattle.std.proofs.lemmas.Result.{IfOk-weaker}
-use Rattle.qtt_term.specs.View.{term}
 use Rattle.qtt_conv.specs.Frames.{plug_all}
 use Rattle.qtt_conv.proofs.Stepping.{plug_all-last}
 use Rattle.qtt_conv.proofs.spine.resumed.Goals as goal
@@ -10,6 +9,5 @@ returns-in_ok-inner-in-Some-clause-whole c =
     let fs = c.pop.new.self.items in
     IfOk-weaker c.entered.result _ _
     (λ s e. e ∙ ap (plug_all fs) c.in_ok-inner-in-Some.ensures
-    ∙ sym (ap (λ t. plug_all c.args.frames.items (term t)) c.in-Lit.is ∙
-    plug_all-last fs c.in-Some.frame _ c.args.frames.items c.in-Some.ensures.items))
+    ∙ sym (plug_all-last fs c.in-Some.frame _ c.args.frames.items c.in-Some.ensures.items))
     c.entered.ensures.whole
