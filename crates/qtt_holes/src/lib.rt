@@ -31,6 +31,3 @@ pub use calls::walk;
 pub use hole::{Hole, Seen};
 pub use reports::Report;
 pub use telling::show;
-
-#[cfg(test)]
-mod tests;

@@ -1,7 +1,7 @@
 //! The lines of a hole, with ample memory; and that holes may be moved between threads.
 
-use crate::{Hole, Seen, show};
 use qtt_base::{Name, Span};
+use qtt_holes::{Hole, Seen, show};
 use qtt_term::{Globals, Term};
 use qtt_usage::mult::Mult;
 use std::alloc::Global;
