@@ -249,32 +249,27 @@ fn chain(alloc: Global, count: u32) -> Result<BTreeMap<String, Vec<u8>>, Fail> {
     Ok(texts)
 }
 
+/// Whether a build of a thousand modules is loaded whole.
+fn loads_a_thousand(alloc: Global) -> Result<bool, Fail> {
+    let mut vault = MapVault::new(chain(alloc, 1_000)?);
+    let answer = load_from(alloc, &mut vault, "M0")?;
+    Ok(matches!(&answer, Ok(loaded) if loaded.texts().len() == 1_000))
+}
+
+/// Whether a build of these texts, of one module too many, is refused.
+fn refuses_one_more(alloc: Global, texts: BTreeMap<String, Vec<u8>>) -> Result<bool, Fail> {
+    let mut vault = MapVault::new(texts);
+    let answer = load_from(alloc, &mut vault, "M0")?;
+    is_refused(alloc, &answer, "M0:1:1: 31 Limit modules of a build 1001")
+}
+
 #[test]
 fn a_build_has_a_thousand_modules(rt: HostRuntime) -> Result<(), Fail> {
-    let mut vault = MapVault::new(chain(rt.alloc(), 1_000)?);
-    match load_from(rt.alloc(), &mut vault, "M0")? {
-        Ok(loaded) => assert_eq!(rt; loaded.texts().len(), 1_000),
-        Err(_) => assert!(rt; false),
-    }
-    let mut vault = MapVault::new(chain(rt.alloc(), 1_001)?);
-    let answer = load_from(rt.alloc(), &mut vault, "M0")?;
-    assert!(rt;
-        is_refused(
-            rt.alloc(),
-            &answer,
-            "M0:1:1: 31 Limit modules of a build 1001"
-        )?
-    );
+    assert!(rt; loads_a_thousand(rt.alloc())?);
+    assert!(rt; refuses_one_more(rt.alloc(), chain(rt.alloc(), 1_001)?)?);
     // It is not asked whether the module is there.
     let mut texts = chain(rt.alloc(), 1_001)?;
     texts.remove("M1000");
-    let answer = load_from(rt.alloc(), &mut MapVault::new(texts), "M0")?;
-    assert!(rt;
-        is_refused(
-            rt.alloc(),
-            &answer,
-            "M0:1:1: 31 Limit modules of a build 1001"
-        )?
-    );
+    assert!(rt; refuses_one_more(rt.alloc(), texts)?);
     Ok(())
 }
