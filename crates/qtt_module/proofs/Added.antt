@@ -1,5 +1,5 @@
 -- A family and a signature that are judged and put into the environment.
-use Rattle.std.proofs.Common.{◌≡◌, ℕ, List, [], None, option_map, Result, Ok, Err, IsErrAnd, inr, sym, ap, subst, ◌∙◌}
+use Rattle.std.proofs.Common.{◌≡◌, ℕ, List, [], None, option_map, Result, Ok, Err, IsErrAnd, inl, inr, sym, ap, subst, ◌∙◌}
 use Rattle.std.specs.Prelude.{IfOk, IfErr, OnErr}
 use mathlib.Core.Path.{ap₂}
 use Rattle.qtt_base.specs.declared.place.GlobalId.{GlobalId}
@@ -26,6 +26,17 @@ pub puts-passed : {A : Type 0} (put : A → Entries → Entries) (G H : Entries)
 puts-passed put G H n m (Ok u) e h f = absurd h
 puts-passed put G H n m (Err y) e h f = subst (λ z. Refuses (env G) n m z) (sym h) f
 
+-- what stands where the questions of a family without constructors are refused, or memory runs out behind them
+pub first-left : (G H : Entries) (n : ℕ) (m : Asks Head) (r : Result (Unit {0}) ElabError) (e : ElabError) →
+    IsErrAnd r (λ y. y ≡ e) → Refuses (env G) n m e → H ≡ G → Left G H n m r
+first-left G H n m (Ok u) e h f same = absurd h
+first-left G H n m (Err y) e h f same = inl (subst (λ z. Refuses (env G) n m z) (sym h) f, same)
+
+pub memory-left : (G H : Entries) (n : ℕ) (m : Asks Head) (r : Result (Unit {0}) ElabError) (e : ElabError) →
+    IsErrAnd r (λ y. y ≡ e) → e ≡ error.Memory → H ≡ G → Left G H n m r
+memory-left G H n m r e h memory same =
+    first-left G H n m r e h (subst (λ z. Refuses (env G) n m z) (sym memory) tt) same
+
 abbrev made_up : List FamilyEntry → List DefinitionEntry → Entries
 made_up Fs ds = record { families = Fs; definitions = ds }
 
@@ -35,11 +46,11 @@ module _ (G H : Entries) (F : Head) (bare : H ≡ with_family (family_with F [])
   abbrev first : Asks Head
   first = head G f M x ps t
 
-  pub bare-left : (r : Result (Unit {0}) ElabError) → OnErr r (Left G H n first)
+  pub bare-left : (r : Result (Unit {0}) ElabError) → Left G H n first r
   bare-left (Ok u) = tt
   bare-left (Err e) = inr (record { item = F; reaches = h; stands = bare })
 
-  pub still-left : (K : Entries) (r : Result (Unit {0}) ElabError) → OnErr r (K ≡ H) → OnErr r (Left G K n first)
+  pub still-left : (K : Entries) (r : Result (Unit {0}) ElabError) → OnErr r (K ≡ H) → Left G K n first r
   still-left K (Ok u) e = tt
   still-left K (Err x) e = inr (record { item = F; reaches = h; stands = e ∙ bare })
 

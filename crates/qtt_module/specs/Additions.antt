@@ -1,5 +1,5 @@
 -- Items that are judged and then put into the environment.
-use Rattle.std.specs.Prelude.{◌≡◌, ℕ, ◌⊎◌, [], Result, MatchResult}
+use Rattle.std.specs.Prelude.{◌≡◌, ℕ, ◌⊎◌, [], Result, Ok, Err, MatchResult}
 use Rattle.qtt_term.specs.Entries.{Entries, env, with_family}
 use Rattle.qtt_rules.specs.declared.errors.ElabError.{ElabError}
 use Rattle.qtt_rules.specs.Asks.{Asks}
@@ -17,7 +17,10 @@ abbrev pub Puts : {A : Type 0} → (A → Entries → Entries) → Entries → E
     Result (Unit {0}) ElabError → Type 0
 Puts put G H n m result = MatchResult result (λ u. Put put G H n m) (λ e. Refuses (env G) n m e)
 
--- what stands where a family is refused: what stood there, or besides the family without constructors that this list
--- ends with, of which the terms that are kept may speak
-abbrev pub Left : Entries → Entries → ℕ → Asks Head → Type 0
-Left G H n m = (H ≡ G) ⊎ Put (λ F. with_family (family_with F [])) G H n m
+-- what stands where a family is refused: what stood there, where this list, which gives the family without
+-- constructors, ends as the refusal says; or besides what stood there the family that it ends with, of which the terms
+-- that are kept may speak
+abbrev pub Left : Entries → Entries → ℕ → Asks Head → Result (Unit {0}) ElabError → Type 0
+Left G H n m (Ok u) = Unit {0}
+Left G H n m (Err e) =
+    (Refuses (env G) n m e × (H ≡ G)) ⊎ Put (λ F. with_family (family_with F [])) G H n m

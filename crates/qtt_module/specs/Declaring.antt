@@ -1,6 +1,8 @@
 -- What the code's declarations stand for, and a clause behind others.
 use Rattle.std.specs.Prelude.{ℕ, Bool, false, cond, List, [], ◌∷◌, ◌++◌, map, bytes_eq}
 use Rattle.qtt_syntax.specs.declared.module.Clause as code_clause
+use Rattle.qtt_syntax.specs.declared.module.FamilyDecl.{FamilyDecl}
+use Rattle.qtt_syntax.specs.declared.module.SignatureDecl.{SignatureDecl}
 use Rattle.qtt_syntax.specs.View.{tree_of, param_of, con_of}
 use Rattle.qtt_split.specs.Calls.{clause_of}
 use Rattle.qtt_split.specs.Node.{Clause}
@@ -13,10 +15,16 @@ abbrev pub grouped : List code_clause.Clause → List Declaration
 grouped [] = []
 grouped (c ∷ cs) = Declaration.group c.name (clause_of c) (map clause_of cs) ∷ []
 
+abbrev pub family_declared : FamilyDecl → Declaration
+family_declared f =
+    Declaration.family f.name (map param_of f.params.items) (tree_of f.ty) (map con_of f.constructors.items)
+
+abbrev pub signature_declared : SignatureDecl → Declaration
+signature_declared d = Declaration.signature d.partial d.mult d.name d.name_span (tree_of d.ty)
+
 abbrev pub declared : code.Declaration → List Declaration
-declared (variant.Family f) =
-    Declaration.family f.name (map param_of f.params.items) (tree_of f.ty) (map con_of f.constructors.items) ∷ []
-declared (variant.Signature d) = Declaration.signature d.partial d.mult d.name d.name_span (tree_of d.ty) ∷ []
+declared (variant.Family f) = family_declared f ∷ []
+declared (variant.Signature d) = signature_declared d ∷ []
 declared (variant.Group g) = grouped g.clauses.items
 
 abbrev pub all_declared : List code.Declaration → List Declaration

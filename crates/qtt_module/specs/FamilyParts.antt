@@ -1,5 +1,5 @@
 -- Parts of the table of families, for the calls that judge them.
-use Rattle.std.specs.Prelude.{◌≡◌, ℕ, Bool, List, Option}
+use Rattle.std.specs.Prelude.{◌≡◌, ℕ, Bool, List, [], Option}
 use Rattle.std.specs.List.{list_all}
 use Rattle.qtt_base.specs.declared.place.GlobalId.{GlobalId}
 use Rattle.qtt_base.specs.declared.place.Span.{Span}
@@ -9,8 +9,8 @@ use Rattle.qtt_term.specs.Term.{Term, Terms}
 use Rattle.qtt_term.specs.Signature.{Tele}
 use Rattle.qtt_term.specs.Judgement.{Part}
 use Rattle.qtt_term.specs.Items.{FamilyEntry}
-use Rattle.qtt_term.specs.Ask.{Ask, ◌>>=◌}
-use Rattle.qtt_term.specs.Entries.{Entries}
+use Rattle.qtt_term.specs.Ask.{Ask, ◌>>=◌, Ending}
+use Rattle.qtt_term.specs.Entries.{Entries, with_family}
 use Rattle.qtt_term.specs.Scope.{Scope, no_scope, depth}
 use Rattle.qtt_term.specs.Forms.{as_sort}
 use Rattle.qtt_term.specs.declared.rule.Rule.TheVariants as rule
@@ -19,7 +19,7 @@ use Rattle.qtt_core_check.specs.declared.refusal.CoreRefusal.TheVariants as refu
 use Rattle.qtt_rules.specs.declared.detail.Detail.TheVariants as detail
 use Rattle.qtt_rules.specs.declared.errors.ElabError.{ElabError}
 use Rattle.qtt_rules.specs.declared.errors.ElabError.TheVariants as error
-use Rattle.qtt_rules.specs.Refusal.{Cause, at}
+use Rattle.qtt_rules.specs.Refusal.{Cause, Place, Refusal, at}
 use Rattle.qtt_rules.specs.Asks.{Asks, need, found, head_as}
 use Rattle.qtt_rules.specs.Judged.{Mode}
 use Rattle.qtt_positive.specs.FirstBad.{first_bad}
@@ -66,3 +66,10 @@ completed G F cs = do
   ds ← constructors G F 0 cs
   good ← none_bad cs (first_bad F.id (family_with F ds).family)
   Ask.done (family_with F ds)
+
+-- what stands where a family is refused: besides what stood there the family without constructors, once it has ended
+-- so
+abbrev pub standing_bare : Entries → Ending Refusal Place Head → Entries
+standing_bare G (Ending.ok F) = with_family (family_with F []) G
+standing_bare G (Ending.fails r) = G
+standing_bare G (Ending.spent p q) = G

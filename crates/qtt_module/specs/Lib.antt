@@ -1,6 +1,9 @@
 pub mod Additions
+pub mod Answer
 pub mod Declarations
 pub mod Declaring
+pub mod ExportRows
+pub mod Exported
 pub mod Families
 pub mod FamilyParts
 pub mod FamilyRows
@@ -15,5 +18,10 @@ pub mod MainCall
 pub mod Module
 pub mod ModuleRuleRows
 pub mod ModuleRules
+pub mod Prepared
+pub mod Refused
 pub mod Rows
 pub mod Sides
+pub mod Stages
+pub mod Text
+pub mod TextCalls

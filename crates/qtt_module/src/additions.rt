@@ -157,9 +157,9 @@ pub fn add_family<C: Converter>(
         (family_asks (entries globals.old) id home.now declared.now.name
         (map param_of declared.now.params.items) (tree_of declared.now.ty)
         (map con_of declared.now.constructors.items)) result }
-    ensures left { OnErr result (Left (entries globals.old) (entries globals.new) budget
+    ensures left { Left (entries globals.old) (entries globals.new) budget
         (head_asks (entries globals.old) id home.now declared.now.name
-        (map param_of declared.now.params.items) (tree_of declared.now.ty))) }
+        (map param_of declared.now.params.items) (tree_of declared.now.ty)) result }
 {
     let head = head_over(alloc, converter, budget, globals, home, id, declared)?;
     put_bare(alloc, globals, home, &head)?;

@@ -8,6 +8,7 @@ ghost use Rattle.qtt_module.specs.Laws.{
   MainsAreDerived,
   ModulesAreDerived,
 };
+ghost use Rattle.qtt_module.specs.TextCalls.{MainsAreJudged, TextsAreJudged};
 
 /// Without a bound, the premises of families and signatures end with an answer exactly where their
 /// rules derive it.
@@ -43,4 +44,17 @@ pub fn constructors_ask_for_no_reading()
 /// question that the budget does not answer.
 pub fn answers_are_so()
     ensures { AnswersAreSo }
+{}
+
+/// A text that is accepted declares what is kept of it, by the rules and without a budget. One
+/// that is refused is so for its header, a name or what is filled in, for a premise that is false
+/// without a budget, or for the first question that takes more than the budget.
+pub fn texts_are_judged()
+    ensures { TextsAreJudged }
+{}
+
+/// A definition that is given is the program's main. What is refused is not one, or its type is not
+/// compared within the budget.
+pub fn mains_are_judged()
+    ensures { MainsAreJudged }
 {}

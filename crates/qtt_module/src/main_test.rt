@@ -9,7 +9,14 @@ ghost use Rattle.qtt_term.specs.View.{term};
 ghost use Rattle.qtt_term.specs.declared.rule.Rule.TheVariants.{Main};
 ghost use Rattle.qtt_bidi.specs.Answers.{Told};
 ghost use Rattle.qtt_module.specs.MainCall.{TestsMain};
+ghost use Rattle.qtt_module.specs.ModuleRules.{IsMain};
+ghost use Rattle.qtt_module.specs.Answer.{Gives, WhereRefused};
+ghost use Rattle.qtt_module.specs.TextCalls.{RefusesMain, accepted_of, judged_main};
 
+use crate::checked::Checked;
+use crate::errors::ModuleError;
+use crate::laws::mains_are_judged;
+use crate::refusals::told;
 use qtt_base::{GlobalId, Span};
 use qtt_prims::ActKind;
 use qtt_rules::{Detail, ElabError};
@@ -36,7 +43,7 @@ fn type_of_main(alloc: Global) -> Result<Term, TermError>
 /// definition of the environment that is not 0, and its type compares Equal to `IO Unit`, within
 /// `budget` contractions. The refusal is that of the first of these premises that is false, or of
 /// the question.
-pub fn test_main<C: Converter>(
+fn test_main<C: Converter>(
     alloc: Global,
     converter: &C,
     budget: u64,
@@ -63,6 +70,52 @@ pub fn test_main<C: Converter>(
             let question = Question::Compare(0, main.ty.copy(alloc)?, expected);
             let kept = Detail::BudgetSpent { budget, question };
             Err(ElabError::Refused(kept, header, Rule::Main, 2))
+        }
+    }
+}
+
+/// The main of a program whose root module is this accepted one, over an environment that holds its
+/// part. Each question has `budget` contractions.
+pub fn check_main<C: Converter>(
+    alloc: Global,
+    converter: &C,
+    budget: u64,
+    globals: &Globals,
+    checked: &Checked,
+) -> Result<GlobalId, ModuleError>
+    ensures gives { Gives (λ d. d) result
+        (judged_main budget (entries globals.now) (accepted_of checked.now)) }
+    ensures sound { IfOk result (λ d. IsMain (entries globals.now) checked.now.main d) }
+    ensures refused { WhereRefused result
+        (λ r. RefusesMain budget (entries globals.now) (accepted_of checked.now) r) }
+{
+    mains_are_judged();
+    answer(alloc, converter, budget, globals, checked)
+}
+
+/// The same.
+fn answer<C: Converter>(
+    alloc: Global,
+    converter: &C,
+    budget: u64,
+    globals: &Globals,
+    checked: &Checked,
+) -> Result<GlobalId, ModuleError>
+    ensures { Gives (λ d. d) result
+        (judged_main budget (entries globals.now) (accepted_of checked.now)) }
+{
+    match test_main(
+        alloc,
+        converter,
+        budget,
+        globals,
+        checked.header,
+        checked.main,
+    ) {
+        Ok(id) => Ok(id),
+        Err(error) => {
+            let names = globals.copy(alloc)?;
+            Err(told(alloc, &checked.exports.name, names, error))
         }
     }
 }

@@ -1,10 +1,11 @@
-use Rattle.std.proofs.Common.{map}
+use Rattle.std.proofs.Common.{map, refl}
 use Rattle.qtt_syntax.specs.View.{con_of, param_of, tree_of}
 use Rattle.qtt_term.specs.Entries.{entries, with_family}
 use Rattle.qtt_term.specs.Items.{constructor_entry, family_entry}
 use Rattle.qtt_module.specs.Families.{family}
+use Rattle.qtt_module.specs.FamilyParts.{head}
 use Rattle.qtt_module.specs.FamilyView.{head_of}
-use Rattle.qtt_module.proofs.Added.{puts-passed, bare-left, still-left, constructors-refused, family-puts}
+use Rattle.qtt_module.proofs.Added.{puts-passed, first-left, memory-left, bare-left, still-left, constructors-refused, family-puts}
 use Rattle.qtt_module.proofs.Together.{head-refuses}
 use Rattle.qtt_module.proofs.additions.add_family.Goals as goal
 
@@ -68,3 +69,20 @@ returns-clause-left g c =
     (head_of c.args.home.now c.in_ok-head.head) c.in_ok-put_bare.ensures.ok c.args.budget c.args.id c.args.home.now
     d.name (map param_of d.params.items) (tree_of d.ty) (map con_of d.constructors.items) c.in_ok-head.ensures
     (entries c.give_constructors.new.globals) c.give_constructors.result c.give_constructors.ensures.err
+
+pub returns-in_err-head-clause-left : goal.returns-in_err-head-clause-left
+returns-in_err-head-clause-left g c =
+    let G = entries c.args.globals.now in
+    let d = c.args.declared.now in
+    first-left G G c.args.budget
+    (head G c.args.id c.args.home.now d.name (map param_of d.params.items) (tree_of d.ty)) c.from_residual.result
+    c.in_err-head.field-0.0 c.from_residual.ensures.1 c.in_err-head.ensures refl
+
+pub returns-in_err-put_bare-clause-left : goal.returns-in_err-put_bare-clause-left
+returns-in_err-put_bare-clause-left g c =
+    let G = entries c.args.globals.now in
+    let d = c.args.declared.now in
+    memory-left G (entries c.put_bare.new.globals) c.args.budget
+    (head G c.args.id c.args.home.now d.name (map param_of d.params.items) (tree_of d.ty))
+    c.from_residual-in_err-put_bare.result c.in_err-put_bare.field-0.0 c.from_residual-in_err-put_bare.ensures.1
+    c.in_err-put_bare.ensures.memory c.in_err-put_bare.ensures.err
