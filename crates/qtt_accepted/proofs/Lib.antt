@@ -20,3 +20,14 @@ pub mod Added
 pub mod Signed
 pub mod Families
 pub mod Bodies
+pub mod Outlines
+pub mod Passing
+pub mod Grouped
+pub mod Owned
+pub mod TakenOnce
+pub mod Filling
+pub mod Adopted
+pub mod Beside
+pub mod Adding
+pub mod Texts
+pub mod Once

@@ -78,7 +78,7 @@ of-either true b e = absurd (cc e)
 of-either false b e = (refl, e)
 
 -- ---- ids
-other-item : (M : Home) (a b : ℕ) → (a ≡ b → ⊥) → same_id (item_of M a) (item_of M b) ≡ false
+pub other-item : (M : Home) (a b : ℕ) → (a ≡ b → ⊥) → same_id (item_of M a) (item_of M b) ≡ false
 other-item M a b n = by_test (same_id (item_of M a) (item_of M b)) refl
   where
     by_test : (c : Bool) → same_id (item_of M a) (item_of M b) ≡ c → c ≡ false

@@ -1,6 +1,7 @@
 //! Laws of what elaboration accepts. Each function does nothing: its contract is the law.
 
 ghost use Rattle.qtt_accepted.specs.Laws.{BuildsAreFormed, GroupsMakeNoTape, ModulesKeepForm, ElaborationMakesNoTape, ElaborationStaysInScope, WellFormedIsTapeless, GoodFieldsHoldNoCase, SignaturesKeepForm, FamiliesKeepForm, BodiesKeepForm};
+ghost use Rattle.qtt_accepted.specs.Texts.{TextsAreWellNamed, TextsDeclareOnce, TextsKeepForm, TextsKeepFormBeside};
 
 /// No Tape stands in what elaboration gives.
 pub fn elaboration_makes_no_tape()
@@ -51,4 +52,27 @@ pub fn modules_keep_form()
 /// What an accepted build declares is well formed and, without a hole, complete.
 pub fn builds_are_formed()
     ensures { BuildsAreFormed }
+{}
+
+/// What reading a text gives its declarations: no two signatures and no two groups of clauses are
+/// of one name, and marks stay.
+pub fn texts_are_well_named()
+    ensures { TextsAreWellNamed }
+{}
+
+/// An accepted text keeps the environment well formed, once its part is adopted, and without a
+/// hole complete.
+pub fn texts_keep_form()
+    ensures { TextsKeepForm }
+{}
+
+/// So it does beside others that were judged over the same environment.
+pub fn texts_keep_form_beside()
+    ensures { TextsKeepFormBeside }
+{}
+
+/// A text declares one thing alone, and one that is refused for another cause than a budget
+/// declares nothing.
+pub fn texts_declare_once()
+    ensures { TextsDeclareOnce }
 {}

@@ -6,7 +6,15 @@
 //! field or a signature is a type in the core judgement, each family strictly positive, and each
 //! body of its signature's type with no use. A module is to be under ids that are new, its
 //! signatures marked 0 or not at all, and no two of its signatures or groups of clauses of one
-//! name, as the numbering of items, the grammar and the names of a text give it.
+//! name.
+//!
+//! Looking up the names of a text and filling it give that: its signatures and its groups of
+//! clauses have names of their own, and marks stay (`laws::texts_are_well_named`). So an accepted
+//! text keeps the environment well formed, and complete where it has no hole, once its part is
+//! adopted (`laws::texts_keep_form`), also where others that were judged over the same environment
+//! were adopted before it (`laws::texts_keep_form_beside`). Over a well-formed environment it
+//! declares one thing alone, and a text that is refused for another cause than a budget declares
+//! nothing (`laws::texts_declare_once`).
 //!
 //! Under it: an accepted signature, family or body keeps the environment well formed
 //! (`laws::signatures_keep_form`, `families_keep_form`, `bodies_keep_form`); what elaboration gives
