@@ -1,0 +1,17 @@
+mod Ranked
+mod Judged
+mod Declared
+mod Numbers
+mod Marked
+mod Placed
+mod Roots
+mod Formed
+mod Once
+mod Rows
+mod Totals
+mod Tasks
+mod Answered
+mod Passing
+mod Crossing
+mod Stopping
+mod Mentioned

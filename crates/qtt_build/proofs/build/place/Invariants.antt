@@ -1,0 +1,13 @@
+use Rattle.std.proofs.Common.{◌≡◌, drop, map}
+use Rattle.std.specs.List.{list_any}
+use Rattle.qtt_module.specs.TextCalls.{accepted_of}
+use Rattle.qtt_build.specs.Built.{is_named}
+use Rattle.qtt_build.proofs.build.place.Given as goal
+
+-- it is none of those before
+abbrev pub invariant-loop-checked : goal.invariant-loop-checked
+invariant-loop-checked l = record {
+  at : l.place ≡ l.checked-index;
+  later : list_any (is_named l.name) (map accepted_of (drop l.checked-index l.order)) ≡
+      list_any (is_named l.name) (map accepted_of l.order);
+}

@@ -1,0 +1,2 @@
+-- What is proved beside the functions.
+mod Stopping

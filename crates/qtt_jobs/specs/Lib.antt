@@ -1,0 +1,2 @@
+-- What a function answers for many jobs.
+pub mod Answered
