@@ -1,0 +1,3 @@
+pub mod Answers
+mod Headline
+mod Rows

@@ -1,0 +1,4 @@
+pub mod Stop
+pub mod Outcome
+pub mod Headline
+pub mod Rows
