@@ -2,7 +2,7 @@
 #![tactic(auto)]
 
 use qtt_cli::qtt_main;
-use qtt_edge::{ByteSource, FolderVault, OpenGate, StdSink, TapeRack};
+use qtt_edge::{FileTapes, FolderVault, OpenGate, StdSink, StdSource};
 use std::process::ExitCode;
 use std::rt::Env;
 use std::{env, io};
@@ -10,17 +10,18 @@ use std::{env, io};
 /// The status where memory runs out.
 const OUT_OF_MEMORY: u8 = 71;
 
-/// The modules are those of the current folder.
+/// The modules and the tapes are files of the current folder.
 fn main(rt: HostRuntime) -> ExitCode {
     let Ok(words) = words(&rt) else {
         return ExitCode::from(OUT_OF_MEMORY);
     };
     let mut vault = FolderVault::new(&rt, ".");
-    let mut input = ByteSource::new(Vec::new(rt.alloc()));
+    let mut input = StdSource::new(rt.stdin());
     let mut out = StdSink::new(rt.stdout());
     let mut err = StdSink::new(rt.stderr());
-    let mut tapes = TapeRack::new(rt.alloc());
+    let mut tapes = FileTapes::new(rt.alloc(), &rt, ".");
     let status = qtt_main(
+        &rt,
         rt.alloc(),
         &words,
         &mut vault,

@@ -1,9 +1,14 @@
-pub mod Answering
-pub mod Components
-pub mod Gains
-pub mod Hellos
-pub mod Runs
-pub mod Stages
-pub mod Statuses
-pub mod Telling
-pub mod Turns
+mod Answered
+mod Carried
+mod Ended
+mod Finished
+mod Found
+mod Generating
+mod Overs
+mod Programs
+mod Ran
+mod Reporting
+mod Seeing
+mod Shapes
+mod Went
+mod Written

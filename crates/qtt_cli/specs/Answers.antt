@@ -1,93 +1,97 @@
--- What holds of the outside where a status is answered.
-use Rattle.std.specs.Prelude.{◌≡◌, ℕ, List, [], ◌++◌, ◌⊎◌, Option, Some, None, Ok, Err, codes, IfSome, String}
+-- What holds where a status is answered.
+use Rattle.std.specs.Prelude.{◌≡◌, ℕ, List, ◌⊎◌, Option, Some, None, String}
 use Rattle.std.specs.declared.alloc.Global.{Global}
-use Rattle.qtt_edge.specs.Counts.{Rose}
 use Rattle.qtt_edge.specs.Sink.{Adds, AddsFront}
-use Rattle.qtt_cli.specs.Words.{asked}
-use Rattle.qtt_cli.specs.Reading.{Why, reading}
-use Rattle.qtt_cli.specs.Messages.{message}
-use Rattle.qtt_cli.specs.Smallest.{line, output}
+use Rattle.qtt_graph.specs.Graph.{Name}
+use Rattle.qtt_words.specs.Asked.{Work, Asked, asked}
+use Rattle.qtt_run.specs.Front.{Failure}
+use Rattle.qtt_build.specs.Built.{Built}
+use Rattle.qtt_outcome.specs.Outcome.{Outcome, line, outcome}
+use Rattle.qtt_outcome.specs.Headline.{came, HasDerivations, IsGoing, IsRefused, IsAbsent, IsRun}
+use Rattle.qtt_cli.specs.declared.device.Device.{Device}
+use Rattle.qtt_cli.specs.Seen.{Seen, Over}
+use Rattle.qtt_cli.specs.Parts.{DoesNothing, DoesAll, Part, Breaks}
+use Rattle.qtt_cli.specs.Told.{device_line, memory_line}
+use Rattle.qtt_cli.specs.Works.{Generates}
 
--- what a vault may tell: the text of each name that has one
-abbrev pub Texts : Type 0
-Texts = Option (List ℕ → Option (List ℕ))
-
--- ---- lines on err
-abbrev pub usage_line : List ℕ
-usage_line = line (codes "usage: qtt COMMAND MODULE [--steps N] [--budget N] [--jobs N]")
-
-abbrev pub absent_line : List ℕ → List ℕ
-absent_line name = line (codes "module " ++ name ++ codes " not found")
-
-abbrev pub refusal_line : List ℕ → Why → List ℕ
-refusal_line name w = line (message name w)
-
-abbrev pub vault_line : List ℕ
-vault_line = line (codes "vault failed")
-
-abbrev pub output_line : List ℕ
-output_line = line (codes "output failed")
-
-abbrev pub memory_line : List ℕ
-memory_line = line (codes "out of memory")
+pub record Call : Type 1 where
+  pub words : List (String Global)
+  pub seen : Seen
+  -- err, before the call and behind it; and its faults rose in the call
+  pub err_before : Option (List ℕ)
+  pub err : Option (List ℕ)
+  pub err_failed : Type 0
 
 -- err gained this line, or a front of it where its faults rose
-abbrev pub Tells : Option (List ℕ) → Option (List ℕ) → ℕ → ℕ → List ℕ → Type 0
-Tells old new before now text = Adds old new text ⊎ (Rose before now × AddsFront old new text)
+abbrev pub IsTold : Call → List ℕ → Type 0
+IsTold c due = Adds c.err_before c.err due ⊎ (c.err_failed × AddsFront c.err_before c.err due)
 
--- ---- the text of the module that the words ask for. Where the vault tells its texts, it is the vault's text of
--- that name
-pub record Read (words : List (String Global)) (texts : Texts) (name text : List ℕ) : Type 0 where
-  pub asked_for : asked words ≡ Some name
-  pub held : IfSome texts (λ f. f name ≡ Some text)
+-- what the words come to
+abbrev pub outcome_over : (c : Call) → Over c.seen → Outcome
+outcome_over c o = outcome c.words o.texts o.input
 
--- reading it gives the program that puts these lines
-pub record Accepts (words : List (String Global)) (texts : Texts) (ts : List (List ℕ)) : Type 0 where
-  pub name : List ℕ
-  pub text : List ℕ
-  pub read : Read words texts name text
-  pub program : reading name text ≡ Ok ts
+-- ---- the call came to its end
+-- over the texts and the input that are told, or over some, the call came to exactly its outcome
+pub record Ends (c : Call) (status : ℕ) : Type 0 where
+  pub over : Over c.seen
+  pub status_is : status ≡ (outcome_over c over).status
+  pub done : DoesAll (outcome_over c over) c.seen.outside
+  pub told : IsTold c (outcome_over c over).err
+  -- a request that went on is accepted: its modules declare what is built by the rules, in a well-formed environment
+  pub accepted : (r : Asked) → asked c.words ≡ Some r → IsGoing status → (B : Built) × HasDerivations over.texts r B
+  -- what is refused has a reason in the rules, a budget or a limit; it is told, and nothing else is done
+  pub refused : (r : Asked) → asked c.words ≡ Some r → status ≡ 1 → IsRefused over.texts r (outcome_over c over)
+  pub absent : (r : Asked) → asked c.words ≡ Some r → status ≡ 66 → IsAbsent over.texts r (outcome_over c over)
+  -- a run shows the full evaluation of main within the steps; tapes are used while they are open, and closed exactly
+  -- once where it ends or traps
+  pub run : (r : Asked) (root : Name) → asked c.words ≡ Some r → r.work ≡ Work.run root → IsGoing status →
+      IsRun over.texts over.input r (outcome_over c over)
+  -- the number of jobs changes nothing
+  pub jobs : (r : Asked) (j : ℕ) → asked c.words ≡ Some r →
+      outcome_over c over ≡ came over.texts over.input (record r { jobs = j })
 
--- reading it gives no program, for this
-pub record HasFault (words : List (String Global)) (texts : Texts) (name : List ℕ) (w : Why) : Type 0 where
-  pub text : List ℕ
-  pub read : Read words texts name text
-  pub fault : reading name text ≡ Err w
+-- ---- a device failed
+pub record Failed (c : Call) : Type 0 where
+  pub device : Device
+  pub failed : c.seen.failed device
+  pub request : Asked
+  pub asked_for : asked c.words ≡ Some request
+  pub over : Over c.seen
+  pub done : Breaks over.texts over.input request device c.seen.outside
+  pub told : IsTold c (line (device_line device))
 
--- reading it gives no program, and err is told why
-pub record Refuses (words : List (String Global)) (texts : Texts) (tells : List ℕ → Type 0) : Type 0 where
-  pub name : List ℕ
-  pub why : Why
-  pub found : HasFault words texts name why
-  pub told : tells (refusal_line name why)
-
--- the words ask for a module, whose reading failed, and err is told so
-pub record Fails (words : List (String Global)) (tells : List ℕ → Type 0) : Type 0 where
-  pub name : List ℕ
-  pub asked_for : asked words ≡ Some name
-  pub told : tells vault_line
-
--- the words ask for a module, which the vault does not hold where it tells its texts, and err is told so
-pub record Misses (words : List (String Global)) (texts : Texts) (tells : List ℕ → Type 0) : Type 0 where
-  pub name : List ℕ
-  pub asked_for : asked words ≡ Some name
-  pub lacking : IfSome texts (λ f. f name ≡ None)
-  pub told : tells (absent_line name)
-
--- out gained a front of what the program puts: of nothing, or of the lines of the text that was read
-abbrev pub PutsFront : List (String Global) → Texts → Option (List ℕ) → Option (List ℕ) → Type 0
-PutsFront words texts old new =
-    Adds old new [] ⊎ ((ts : List (List ℕ)) × Accepts words texts ts × AddsFront old new (output ts))
+-- ---- memory ran out
+-- what was done then
+pub data Left (c : Call) : Type 0 where
+  nothing : DoesNothing c.seen.outside → Left c
+  part : {r : Asked} → asked c.words ≡ Some r → (o : Over c.seen) →
+      Part o.texts o.input r Failure.memory c.seen.outside → Left c
+  broke : {r : Asked} {d : Device} → asked c.words ≡ Some r → c.seen.failed d → (o : Over c.seen) →
+      Breaks o.texts o.input r d c.seen.outside → Left c
+  all : (o : Over c.seen) → DoesAll (outcome_over c o) c.seen.outside → Left c
 
 -- the lines that may be due on err
-pub data Due (words : List (String Global)) (texts : Texts) : List ℕ → Type 0 where
-  out_of_memory : Due words texts memory_line
-  usage : asked words ≡ None → Due words texts usage_line
-  absent : {name : List ℕ} → asked words ≡ Some name → Due words texts (absent_line name)
-  refusal : {name : List ℕ} {w : Why} → HasFault words texts name w → Due words texts (refusal_line name w)
-  vault_fault : {name : List ℕ} → asked words ≡ Some name → Due words texts vault_line
-  output_fault : {name : List ℕ} → asked words ≡ Some name → Due words texts output_line
+pub data Due (c : Call) : List ℕ → Type 0 where
+  out_of_memory : Due c memory_line
+  of_outcome : (o : Over c.seen) → Due c (outcome_over c o).err
+  of_device : {d : Device} → c.seen.failed d → Due c (line (device_line d))
 
--- err gained a front of one line that may be due
-abbrev pub TellsFront : List (String Global) → Texts → Option (List ℕ) → Option (List ℕ) → Type 0
-TellsFront words texts old new = (due : List ℕ) × Due words texts due × AddsFront old new due
+pub record RunsOut (c : Call) : Type 0 where
+  pub left : Left c
+  pub due : List ℕ
+  pub is_due : Due c due
+  pub told : AddsFront c.err_before c.err due
+
+-- ---- all statuses
+abbrev pub IsEnd : ℕ → Type 0
+IsEnd status = IsGoing status ⊎ (status ≡ 1) ⊎ (status ≡ 64) ⊎ (status ≡ 66)
+
+pub record Answers (c : Call) (status : ℕ) : Type 0 where
+  pub statuses : IsEnd status ⊎ (status ≡ 71) ⊎ (status ≡ 74)
+  pub ends : IsEnd status → Ends c status
+  pub usage : status ≡ 64 → asked c.words ≡ None
+  pub usage_always : asked c.words ≡ None → (status ≡ 64) ⊎ (status ≡ 71)
+  -- 66 only where the vault lacked a module in this call; of generated modules that is not shown
+  pub absent : status ≡ 66 → c.seen.missed ⊎ ((r : Asked) × (asked c.words ≡ Some r) × Generates r)
+  pub failed : status ≡ 74 → Failed c
+  pub memory : status ≡ 71 → RunsOut c

@@ -1,47 +1,48 @@
 //! The program, as one call over the outside that it is handed.
 //!
-//! What reading a text gives is one function of its bytes, a line a stage (`specs/Reading`): the
-//! lines of its program, or why there is none, which is what a refusal keeps and its place, or
-//! that what stands there is not built yet.
-//! `qtt_main`: status 64 with the usage line exactly where the words are not a command and a
-//! module's name (`usage`, `usage_always`); 66 only where the vault's count of misses rose, and
-//! over a told vault only where the module is not there (`absent`); 1 exactly where reading
-//! gives no program, with the line that tells why (`refused`), as `qtt_diag` has it; 74 only
-//! where the faults of the vault or of the output rose (`failed`); else 0, and the output gains
-//! exactly what the full run of the text's main puts (`accepted`). With want of memory the
-//! output gained a front of that (`memory`). Texts, input and tapes are not touched. `laws`: the
-//! items of Prim that texts see are those of the core (`prim_agrees`), and smallest programs end
-//! (`smallest_programs_end`).
+//! `qtt_main` does all that the program does. What a call comes to is one definition
+//! (`qtt_outcome`), and `specs/Answers` says what holds where a status is answered. With 0, 1, 2,
+//! 3, 64 and 66 the call came to exactly its outcome over the texts and the input that the devices
+//! tell: its status, what `out` gained, the tapes and the line on `err`. A request that goes on is
+//! accepted by the rules; what is refused has a reason, and is told so; what `run` shows is the
+//! full evaluation of main within the steps, with each tape closed exactly once where it ends or
+//! traps; the number of jobs changes nothing. With 74 a device failed in this call, and `err` is
+//! told which; with that, and with want of memory (71), what was done is a part of the outcome
+//! (`specs/Parts`).
 #![tactic(auto)]
 
-mod core_term;
+mod device;
 mod ending;
-mod errors;
-mod hello;
-pub mod laws;
-mod message;
-mod parts;
-mod read;
-mod runner;
-mod stage;
-mod words;
+mod generated;
+mod holes;
+mod printing;
+mod program;
+mod refusal;
+mod running;
+mod stop;
+mod texts;
+mod verdict;
 mod work;
 
-ghost use Rattle.std.specs.Prelude.{◌≡◌, ◌⊎◌, None, [], List, ℕ};
+ghost use Rattle.std.specs.Prelude.{◌≡◌, []};
 ghost use Rattle.std.specs.Option.{ForSome};
 ghost use Rattle.qtt_edge.specs.Counts.{Rose};
-ghost use Rattle.qtt_edge.specs.Sink.{Adds, AddsFront};
-ghost use Rattle.qtt_cli.specs.Words.{asked};
-ghost use Rattle.qtt_cli.specs.Smallest.{output};
-ghost use Rattle.qtt_cli.specs.Answers.{Accepts, Refuses, Fails, Misses, PutsFront, Tells, TellsFront, usage_line, output_line};
+ghost use Rattle.qtt_cli.specs.Answers.{Answers};
+ghost use Rattle.qtt_cli.specs.Seen.{one_of};
 
 use crate::ending::finish;
 use crate::work::work;
 use qtt_edge::{Gate, Sink, Source, Tapes, Vault};
+use qtt_outcome::laws::{
+    absent_is_told, accepted_is_derived, jobs_change_nothing, refused_for_reason,
+    runs_are_evaluations,
+};
 use std::alloc::Global;
+use std::thread::Threads;
 
 /// Does all that the program does, and gives its exit status.
-pub fn qtt_main<V: Vault, I: Source, O: Sink, E: Sink, T: Tapes, G: Gate>(
+pub fn qtt_main<R: Threads + Sync, V: Vault, I: Source, O: Sink, E: Sink, T: Tapes, G: Gate>(
+    rt: &R,
     alloc: Global,
     words: &[String],
     vault: &mut V,
@@ -52,45 +53,34 @@ pub fn qtt_main<V: Vault, I: Source, O: Sink, E: Sink, T: Tapes, G: Gate>(
     gate: &G,
 ) -> u8
     requires { ForSome (T.tapes tapes.old) (λ all. all ≡ []) }
-
-    // Which statuses there are, and what each says of the words, the text, the output and the
-    // line on `err`.
-    ensures statuses { (result ≡ 0) ⊎ (result ≡ 1) ⊎ (result ≡ 64) ⊎ (result ≡ 66) ⊎
-        (result ≡ 71) ⊎ (result ≡ 74) }
-    ensures accepted { result ≡ 0 →
-        (ts : List (List ℕ)) × Accepts words.now (V.texts vault.old) ts ×
-        Adds (O.content out.old) (O.content out.new) (output ts) × Adds (E.content err.old)
-        (E.content err.new) [] }
-    ensures refused { result ≡ 1 →
-        Refuses words.now (V.texts vault.old)
-        (Tells (E.content err.old) (E.content err.new) (E.faults err.old) (E.faults err.new)) ×
-        Adds (O.content out.old) (O.content out.new) [] }
-    ensures usage { result ≡ 64 →
-        (asked words.now ≡ None) × Tells (E.content err.old) (E.content err.new)
-        (E.faults err.old) (E.faults err.new) usage_line × Adds (O.content out.old)
-        (O.content out.new) [] }
-    ensures usage_always { asked words.now ≡ None → (result ≡ 64) ⊎ (result ≡ 71) }
-    ensures absent { result ≡ 66 →
-        Rose (V.misses vault.old) (V.misses vault.new) × Misses words.now (V.texts vault.old)
-        (Tells (E.content err.old) (E.content err.new) (E.faults err.old) (E.faults err.new)) ×
-        Adds (O.content out.old) (O.content out.new) [] }
-    ensures failed { result ≡ 74 →
-        (Rose (V.faults vault.old) (V.faults vault.new) × Fails words.now
-        (Tells (E.content err.old) (E.content err.new) (E.faults err.old) (E.faults err.new)) ×
-        Adds (O.content out.old) (O.content out.new) [])
-        ⊎ (Rose (O.faults out.old) (O.faults out.new) × Tells (E.content err.old)
-        (E.content err.new) (E.faults err.old) (E.faults err.new) output_line
-        × ((ts : List (List ℕ)) × Accepts words.now (V.texts vault.old) ts ×
-        AddsFront (O.content out.old) (O.content out.new) (output ts))) }
-    ensures memory { result ≡ 71 →
-        PutsFront words.now (V.texts vault.old) (O.content out.old) (O.content out.new) ×
-        TellsFront words.now (V.texts vault.old) (E.content err.old) (E.content err.new) }
-
-    // What is not touched.
+    ensures answers { Answers (record {
+      words = words.now;
+      seen = record {
+        texts = V.texts vault.old;
+        input = I.content input.old;
+        outside = record {
+          output_before = O.content out.old;
+          output = O.content out.new;
+          tapes_before = T.tapes tapes.old;
+          tapes = T.tapes tapes.new;
+        };
+        failed = one_of (Rose (V.faults vault.old) (V.faults vault.new))
+            (Rose (I.faults input.old) (I.faults input.new))
+            (Rose (O.faults out.old) (O.faults out.new))
+            (Rose (T.faults tapes.old) (T.faults tapes.new));
+        missed = Rose (V.misses vault.old) (V.misses vault.new);
+      };
+      err_before = E.content err.old;
+      err = E.content err.new;
+      err_failed = Rose (E.faults err.old) (E.faults err.new);
+    }) result }
     ensures texts_stay { V.texts vault.new ≡ V.texts vault.old }
-    ensures input_stays { I.content input.new ≡ I.content input.old }
-    ensures tapes_stay { T.tapes tapes.new ≡ T.tapes tapes.old }
 {
-    let ending = work(alloc, words, vault, out);
-    finish(alloc, err, ending)
+    accepted_is_derived();
+    refused_for_reason();
+    absent_is_told();
+    runs_are_evaluations();
+    jobs_change_nothing();
+    let went = work(rt, alloc, words, vault, input, out, tapes, gate);
+    finish(alloc, err, went)
 }

@@ -1,85 +1,96 @@
-//! What the words ask for.
+//! What the words ask for, carried out.
 
-ghost use Rattle.std.specs.Prelude.{◌≡◌, ◌≤◌, ◌⊎◌, None, OnOk, OnErr, IsErrOf, length};
-ghost use Rattle.qtt_edge.specs.Counts.{Rose, Counts};
-ghost use Rattle.qtt_edge.specs.Sink.{Adds, AddsFront};
-ghost use Rattle.qtt_cli.specs.Words.{asked};
-ghost use Rattle.qtt_cli.specs.Smallest.{output};
-ghost use Rattle.qtt_cli.specs.Endings.{Ends, EndsText};
+ghost use Rattle.std.specs.Prelude.{◌≡◌, []};
+ghost use Rattle.std.specs.Option.{ForSome};
+ghost use Rattle.qtt_edge.specs.Counts.{Rose};
+ghost use Rattle.qtt_words.specs.Requested.{requested};
+ghost use Rattle.qtt_cli.specs.Seen.{one_of};
+ghost use Rattle.qtt_cli.specs.Works.{Carries, Works};
 
-use crate::core_term::main_core;
-use crate::ending::Ending;
-use crate::errors::ReadError;
-use crate::read::{MAX_MODULE, read};
-use crate::runner::run;
-use crate::words::asked_name;
-use qtt_base::Name;
-use qtt_edge::{Sink, SinkError, Vault, VaultError};
-use qtt_prims::Text;
+use crate::printing::{check, code, core, put};
+use crate::program::program;
+use crate::running::{run, run_generated};
+use crate::stop::Stop;
+use crate::verdict::Verdict;
+use qtt_edge::{Gate, Sink, Source, Tapes, Vault};
+use qtt_words::{Command, Request, read_words};
 use std::alloc::Global;
+use std::thread::Threads;
 
 /// Does what the words ask for, but tells nothing on `err`.
-pub fn work<V: Vault, O: Sink>(
+pub(crate) fn work<R: Threads + Sync, V: Vault, I: Source, O: Sink, T: Tapes, G: Gate>(
+    rt: &R,
     alloc: Global,
     words: &[String],
     vault: &mut V,
+    input: &mut I,
     out: &mut O,
-) -> Ending
-    ensures ends { Ends words.now (V.texts vault.old)
-        (record {
-          vault = Rose (V.faults vault.old) (V.faults vault.new);
-          miss = Rose (V.misses vault.old) (V.misses vault.new);
-          output =
-              Rose (O.faults out.old) (O.faults out.new);
-        }) (O.content out.old)
-        (O.content out.new) result }
-    ensures usage { asked words.now ≡ None → (result ≡ Ending.Usage) ⊎ (result ≡ Ending.Memory) }
-    ensures texts { V.texts vault.new ≡ V.texts vault.old }
+    tapes: &mut T,
+    gate: &G,
+) -> Result<Verdict, Stop>
+    requires { ForSome (T.tapes tapes.old) (λ all. all ≡ []) }
+    ensures works { Works words.now (record {
+      texts = V.texts vault.old;
+      input = I.content input.old;
+      outside = record {
+        output_before = O.content out.old;
+        output = O.content out.new;
+        tapes_before = T.tapes tapes.old;
+        tapes = T.tapes tapes.new;
+      };
+      failed = one_of (Rose (V.faults vault.old) (V.faults vault.new))
+          (Rose (I.faults input.old) (I.faults input.new))
+          (Rose (O.faults out.old) (O.faults out.new))
+          (Rose (T.faults tapes.old) (T.faults tapes.new));
+      missed = Rose (V.misses vault.old) (V.misses vault.new);
+    }) result }
+    ensures same { V.texts vault.new ≡ V.texts vault.old }
 {
-    let Ok(asked) = asked_name(alloc, words) else {
-        return Ending::Memory;
-    };
-    let Some(name) = asked else {
-        return Ending::Usage;
-    };
-    match vault.read(alloc, name.as_str(), MAX_MODULE + 1) {
-        Ok(text) => run_text(alloc, name, &text, out),
-        Err(VaultError::Absent) => Ending::Absent(name),
-        Err(VaultError::Failed) => Ending::VaultFailed,
-        Err(VaultError::Memory) => Ending::Memory,
+    match read_words(alloc, words)? {
+        Some(request) => carry_out(rt, alloc, &request, vault, input, out, tapes, gate),
+        None => Err(Stop::Usage),
     }
 }
 
-/// Runs the program of a module's text.
-fn run_text<O: Sink>(alloc: Global, name: Name, text: &[u8], out: &mut O) -> Ending
-    ensures { EndsText name text.now (Rose (O.faults out.old) (O.faults out.new))
-        (O.content out.old) (O.content out.new) result }
+/// Carries out a request.
+fn carry_out<R: Threads + Sync, V: Vault, I: Source, O: Sink, T: Tapes, G: Gate>(
+    rt: &R,
+    alloc: Global,
+    request: &Request,
+    vault: &mut V,
+    input: &mut I,
+    out: &mut O,
+    tapes: &mut T,
+    gate: &G,
+) -> Result<Verdict, Stop>
+    requires { ForSome (T.tapes tapes.old) (λ all. all ≡ []) }
+    ensures carries { Carries (record {
+      texts = V.texts vault.old;
+      input = I.content input.old;
+      outside = record {
+        output_before = O.content out.old;
+        output = O.content out.new;
+        tapes_before = T.tapes tapes.old;
+        tapes = T.tapes tapes.new;
+      };
+      failed = one_of (Rose (V.faults vault.old) (V.faults vault.new))
+          (Rose (I.faults input.old) (I.faults input.new))
+          (Rose (O.faults out.old) (O.faults out.new))
+          (Rose (T.faults tapes.old) (T.faults tapes.new));
+      missed = Rose (V.misses vault.old) (V.misses vault.new);
+    }) (requested request.now) result }
+    ensures same { V.texts vault.new ≡ V.texts vault.old }
 {
-    let lines = match read(alloc, &name, text) {
-        Ok(lines) => lines,
-        Err(ReadError::Refused(span, detail)) => return Ending::Refused(name, span, detail),
-        Err(ReadError::NotYet(span)) => return Ending::NotYet(name, span),
-        Err(ReadError::Memory) => return Ending::Memory,
-    };
-    match run_lines(alloc, lines, out) {
-        Ok(()) => Ending::Ran,
-        Err(SinkError::Failed) => Ending::OutputFailed,
-        Err(SinkError::Memory) => Ending::Memory,
+    match &request.command {
+        Command::Check(root) => put(out, &check(rt, alloc, vault, gate, root, request)?),
+        Command::Core(root) => put(out, &core(rt, alloc, vault, gate, root, request)?),
+        Command::Code(root) => put(out, &code(rt, alloc, vault, gate, root, request)?),
+        Command::Run(root) => {
+            let program = program(rt, alloc, vault, gate, root, request)?;
+            Ok(run(alloc, &program, request.steps, input, out, tapes)?.verdict)
+        }
+        Command::Generate(generation) => {
+            run_generated(rt, alloc, generation, request, input, out, tapes, gate)
+        }
     }
-}
-
-/// Runs the program that puts these lines.
-fn run_lines<O: Sink>(alloc: Global, lines: Vec<Text>, out: &mut O) -> Result<(), SinkError>
-    requires some { 1 ≤ length lines.items }
-    requires few { length lines.items ≤ 500 }
-    ensures ok { OnOk result (Adds (O.content out.old) (O.content out.new) (output lines.items)) }
-    ensures err { OnErr result
-        (AddsFront (O.content out.old) (O.content out.new) (output lines.items)) }
-    ensures failed { Counts (O.faults out.old) (O.faults out.new)
-        (IsErrOf result SinkError.Failed) }
-{
-    let Ok(core) = main_core(alloc, lines) else {
-        return Err(SinkError::Memory);
-    };
-    run(alloc, &core, out)
 }

@@ -1,5 +1,11 @@
-//! Tests of the public calls of `qtt_cli`.
+//! Tests of the public call of `qtt_cli`: worked rows, and devices that fail.
 #![tactic(auto)]
 
 #[cfg(test)]
-mod tests;
+mod builds;
+#[cfg(test)]
+mod calls;
+#[cfg(test)]
+mod devices;
+#[cfg(test)]
+mod rows;

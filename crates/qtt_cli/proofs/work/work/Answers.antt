@@ -1,24 +1,21 @@
-use Rattle.std.proofs.Common.{◌≡◌, Some, sym, ◌∙◌}
-use Rattle.qtt_edge.specs.Counts.{Rose}
-use Rattle.qtt_cli.specs.Words.{asked}
-use Rattle.qtt_cli.specs.Endings.{Faults}
-use Rattle.qtt_cli.proofs.Answering.{whole_text, ends_as_text}
+use Rattle.std.proofs.Common.{option_map, sym, ap, ◌∙◌}
+use Rattle.std.proofs.lemmas.Result.{err_from_is_err_and}
+use Rattle.qtt_words.specs.Requested.{requested}
+use Rattle.qtt_cli.specs.Works.{Works}
+use Rattle.qtt_cli.proofs.Overs.{does-nothing}
 use Rattle.qtt_cli.proofs.work.work.Goals as goal
 
-pub returns-in-Ok-read-clause-ends : goal.returns-in-Ok-read-clause-ends
-returns-in-Ok-read-clause-ends g c =
-    let words = c.args.words.now in
-    let texts = g.V.Vault.texts c.args.vault.now in
-    let name = c.in-Some.name in
-    let asked_for : asked words ≡ Some name = sym c.in-Ok.ensures ∙ c.in-Some.is in
-    let whole =
-    whole_text words texts name c.in-Ok-read.text asked_for (rw c.as_str.ensures.value at c.in-Ok-read.ensures.reads) in
-    let faults : Faults = record {
-      vault = Rose (g.V.Vault.faults c.args.vault.now) (g.V.Vault.faults c.read.new.self);
-      miss = Rose (g.V.Vault.misses c.args.vault.now) (g.V.Vault.misses c.read.new.self);
-      output = Rose (g.O.Sink.faults c.args.out.now) (g.O.Sink.faults c.run_text.new.out);
-    } in
-    let told = g.O.Sink.content in
-    ends_as_text words texts faults name c.in-Ok-read.text.items (told c.args.out.now)
-    (told c.run_text.new.out) c.run_text.result whole
-    (rw c.deref.ensures.value at c.run_text.ensures)
+pub returns-in_err-request-clause-works : goal.returns-in_err-request-clause-works
+returns-in_err-request-clause-works g c =
+    let p = err_from_is_err_and c.from_residual.result c.from_residual.ensures.1 in
+    rw (p.1, p.2)
+    (Works.memory (does-nothing (g.O.Sink.content c.args.out.now) (g.T.Tapes.tapes c.args.tapes.now)))
+
+pub returns-in-Some-clause-works : goal.returns-in-Some-clause-works
+returns-in-Some-clause-works g c =
+    Works.carried (sym c.in_ok-request.ensures ∙ ap (option_map requested) c.in-Some.is) c.carry_out.ensures.carries
+
+pub returns-in-None-clause-works : goal.returns-in-None-clause-works
+returns-in-None-clause-works g c =
+    Works.usage (sym c.in_ok-request.ensures ∙ ap (option_map requested) c.in-None.is)
+    (does-nothing (g.O.Sink.content c.args.out.now) (g.T.Tapes.tapes c.args.tapes.now))

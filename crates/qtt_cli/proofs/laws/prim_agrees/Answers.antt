@@ -1,5 +1,0 @@
-use Rattle.std.proofs.Common.{refl}
-use Rattle.qtt_cli.proofs.laws.prim_agrees.Goals as goal
-
-pub returns : goal.returns
-returns c = record { counts = refl; items = refl; families = refl }

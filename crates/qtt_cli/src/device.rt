@@ -1,0 +1,10 @@
+//! The devices of the outside.
+
+/// A device of the outside, which may fail.
+#[derive(Clone, Copy, Debug, PartialEq, Eq)]
+pub enum Device {
+    Vault,
+    Input,
+    Output,
+    Tape,
+}
