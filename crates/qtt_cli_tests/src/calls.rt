@@ -148,3 +148,13 @@ pub fn holds<R: Threads + Sync>(rt: &R, alloc: Global, row: &Row) -> Result<bool
     let left = call(rt, alloc, &modules, row.words, row.input)?;
     Ok(left.is(row.status, row.out.as_bytes(), row.err.as_bytes()))
 }
+
+/// Whether each call leaves that.
+pub fn all_hold<R: Threads + Sync>(rt: &R, alloc: Global, rows: &[Row]) -> Result<bool, Fail> {
+    for row in rows {
+        if !holds(rt, alloc, row)? {
+            return Ok(false);
+        }
+    }
+    Ok(true)
+}

@@ -9,3 +9,5 @@ mod calls;
 mod devices;
 #[cfg(test)]
 mod rows;
+#[cfg(test)]
+mod tables;

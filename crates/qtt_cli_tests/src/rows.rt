@@ -1,9 +1,7 @@
 //! Rows of one module.
 
-use crate::calls::{Row, holds};
-use std::alloc::Global;
+use crate::calls::{Row, all_hold, holds};
 use std::test::Fail;
-use std::thread::Threads;
 
 const VECTORS: &str = "module Main
 data Nat : Type where
@@ -173,16 +171,6 @@ fn told<'a>(text: &'a str, words: &'a [&'a str], status: u8, err: &'a str) -> Ro
         out: "",
         err,
     }
-}
-
-/// Whether each row holds.
-fn all_hold<R: Threads + Sync>(rt: &R, alloc: Global, rows: &[Row]) -> Result<bool, Fail> {
-    for row in rows {
-        if !holds(rt, alloc, row)? {
-            return Ok(false);
-        }
-    }
-    Ok(true)
 }
 
 const BOUND: &str = "step bound reached\n";
