@@ -1,0 +1,13 @@
+pub mod Closures
+pub mod Framing
+pub mod Contracting
+pub mod Assembling
+pub mod Finishing
+pub mod Plugging
+pub mod Fields
+pub mod ComponentLists
+pub mod Puts
+pub mod Openings
+pub mod Likeness
+pub mod Leading
+pub mod Stacking

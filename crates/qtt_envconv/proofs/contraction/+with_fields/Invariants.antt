@@ -1,0 +1,6 @@
+-- Fewer fields are left.
+use Rattle.std.proofs.Common.{length}
+use Rattle.qtt_envconv.proofs.contraction.+with_fields.Given as goal
+
+abbrev pub decreases-with_fields : goal.decreases-with_fields
+decreases-with_fields l = length l.fields.now

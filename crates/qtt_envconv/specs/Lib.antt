@@ -1,0 +1,11 @@
+pub mod Closures
+pub mod Shapes
+pub mod Components
+pub mod Nodes
+pub mod Opened
+pub mod Tasks
+pub mod Twins
+pub mod Frames
+pub mod Spines
+pub mod Pairs
+pub mod Stacks
