@@ -1,45 +1,26 @@
 //! The build of a named module.
 
-ghost use Rattle.std.specs.Prelude.{◌≡◌, ◌<◌, ◌^◌, false, Option, None, Ok, length, map, IfSome, IsErrOf};
-ghost use Rattle.std.specs.List.{list_any};
+ghost use Rattle.std.specs.Prelude.{◌≡◌, ◌<◌, Option, Ok, IsErrOf};
 ghost use Rattle.qtt_edge.specs.Counts.{Counts};
 ghost use Rattle.qtt_load.specs.Reading.{Texts};
 ghost use Rattle.qtt_load.specs.Answer.{Loads, trees};
-ghost use Rattle.qtt_module.specs.TextCalls.{accepted_of};
-ghost use Rattle.qtt_build.specs.Built.{is_named};
-ghost use Rattle.qtt_build.specs.Answer.{IsAbsent, IsBuild, IsJudged, StandsAt};
+ghost use Rattle.qtt_build.specs.Answer.{IsAbsent, IsBuild, IsJudged};
 ghost use Rattle.qtt_build.specs.declared.errors.BuildError.TheVariants.{VaultFault};
 
 use crate::building::Building;
 use crate::built::Built;
 use crate::errors::BuildError;
 use crate::laws::roots_are_built;
+use crate::order::place;
 use crate::ranks::built_by_rank;
 use qtt_base::Name;
 use qtt_diag::laws::kinds_agree;
 use qtt_edge::{Gate, Vault};
 use qtt_load::laws::loaded_are_builds;
 use qtt_load::{Loaded, OrderError, by_rank, load};
-use qtt_module::{Checked, ModuleError};
+use qtt_module::ModuleError;
 use std::alloc::Global;
 use std::thread::Threads;
-
-/// The place of the module of this name.
-fn place(order: &[Checked], name: &Name) -> Option<u32>
-    requires { length order.now < 2 ^ 32 }
-    ensures some { IfSome result (StandsAt (map accepted_of order.now) name.now) }
-    ensures none { result ≡ None →
-        list_any (is_named name.now) (map accepted_of order.now) ≡ false }
-{
-    let mut place = 0;
-    for checked in order {
-        if checked.exports.name == *name {
-            return Some(place);
-        }
-        place += 1;
-    }
-    None
-}
 
 /// The build of what is loaded.
 fn built<R: Threads + Sync, G: Gate>(

@@ -1,31 +1,19 @@
 //! What the modules that are built give to those that import them.
 
-ghost use Rattle.std.specs.Prelude.{◌≡◌, ◌++◌, map, find, IfOk, OnOk, option_map};
+ghost use Rattle.std.specs.Prelude.{◌≡◌, ◌++◌, map, IfOk, OnOk};
 ghost use Rattle.std.specs.List.{filter_map};
 ghost use Rattle.qtt_load.specs.Loading.{mentioned, noted};
 ghost use Rattle.qtt_names.specs.Exports.{exports_of};
 ghost use Rattle.qtt_module.specs.TextCalls.{accepted_of};
-ghost use Rattle.qtt_build.specs.Built.{exports_named, imports_of, is_named};
+ghost use Rattle.qtt_build.specs.Built.{exports_named, imports_of};
 
+use crate::order::module_named;
 use indexmap::IndexSet;
 use qtt_base::{MemoryError, Name};
 use qtt_module::Checked;
 use qtt_names::Exports;
 use qtt_syntax::Import;
 use std::alloc::Global;
-
-/// The module of this name.
-fn named<'o>(order: &'o [Checked], name: &Name) -> Option<&'o Checked>
-    ensures { option_map (λ c. accepted_of c.now) result
-        ≡ find (is_named name.now) (map accepted_of order.now) }
-{
-    for checked in order {
-        if checked.exports.name == *name {
-            return Some(checked);
-        }
-    }
-    None
-}
 
 /// Notes the modules that imports mention, each once. Prim counts for nothing.
 fn note_all(known: &mut IndexSet<Name>, imports: &[Import]) -> Result<(), MemoryError>
@@ -56,7 +44,7 @@ fn given(alloc: Global, order: &[Checked], names: &[Name]) -> Result<Vec<Exports
 {
     let mut exports = Vec::with_capacity(alloc, names.len())?;
     for name in names {
-        if let Some(checked) = named(order, name) {
+        if let Some(checked) = module_named(order, name) {
             exports.push(checked.exports.copy(alloc)?)?;
         }
     }

@@ -17,7 +17,8 @@
 //! `build_all` gives exactly that build of some texts, which are the vault's where it tells them,
 //! for every number of jobs, and the place of the named module; or exactly why there is none. A
 //! rank's modules are judged by threads that read one environment; each passes the gate first, and
-//! the first refusal is that of the order of names.
+//! the first refusal is that of the order of names. `module_named` finds a module of a build by its
+//! name.
 #![tactic(auto)]
 
 mod adoption;
@@ -28,6 +29,7 @@ mod errors;
 pub mod examples;
 mod imports;
 pub mod laws;
+mod order;
 mod rank;
 mod ranks;
 mod worker;
@@ -35,3 +37,4 @@ mod worker;
 pub use build::build_all;
 pub use built::Built;
 pub use errors::BuildError;
+pub use order::module_named;

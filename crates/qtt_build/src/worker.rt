@@ -7,7 +7,7 @@ ghost use Rattle.qtt_build.specs.Answer.{answer_to, building_of, task_of};
 use crate::building::Building;
 use crate::imports::imports_for;
 use qtt_base::ModuleId;
-use qtt_conv::BySubst;
+use qtt_envconv::ByEnv;
 use qtt_jobs::Work;
 use qtt_module::{Checked, ModuleError, check_module};
 use qtt_syntax::ModuleText;
@@ -40,7 +40,7 @@ impl<'t> Work<Job<'t>, Checked, ModuleError> for Worker<'_> {
         let imports = imports_for(self.alloc, &self.building.order, &text.imports)?;
         check_module(
             self.alloc,
-            &BySubst,
+            &ByEnv,
             self.budget,
             id,
             text,

@@ -1,6 +1,6 @@
 //! The program of a module: its build, its main and its code.
 
-ghost use Rattle.std.specs.Prelude.{◌≡◌, ◌<◌, IfOk, IsTrue, find, map, option_map};
+ghost use Rattle.std.specs.Prelude.{◌≡◌, ◌<◌, IfOk, IsTrue};
 ghost use Rattle.std.specs.List.{list_any};
 ghost use Rattle.qtt_edge.specs.Counts.{Counts};
 ghost use Rattle.qtt_term.specs.Entries.{entries};
@@ -8,7 +8,6 @@ ghost use Rattle.qtt_lower.specs.Whole.{IsProgramOf};
 ghost use Rattle.qtt_run.specs.Program.{IsCodeOfMain};
 ghost use Rattle.qtt_term.specs.Globals.{env};
 ghost use Rattle.qtt_load.specs.Reading.{front};
-ghost use Rattle.qtt_module.specs.TextCalls.{accepted_of};
 ghost use Rattle.qtt_build.specs.Answer.{built_of};
 ghost use Rattle.qtt_build.specs.Built.{is_named};
 ghost use Rattle.qtt_outcome.specs.Stop.{main_of};
@@ -22,11 +21,11 @@ use crate::holes::refuse_holes;
 use crate::refusal::plain;
 use crate::stop::Stop;
 use qtt_base::{GlobalId, Name, Span};
-use qtt_build::{Built, build_all};
-use qtt_conv::BySubst;
+use qtt_build::{Built, build_all, module_named};
 use qtt_edge::{Gate, Vault};
+use qtt_envconv::ByEnv;
 use qtt_lower::{Compiled, LowerError, lower_all};
-use qtt_module::{Checked, check_main};
+use qtt_module::check_main;
 use qtt_outcome::laws::mains_may_run;
 use qtt_rules::Detail;
 use qtt_run::laws::compiled_is_code;
@@ -98,20 +97,7 @@ fn main_of(alloc: Global, built: &Built, root: &Name, budget: u64) -> Result<Glo
     let Some(checked) = module_named(&built.order, root) else {
         unreachable!();
     };
-    Ok(check_main(alloc, &BySubst, budget, &built.env, checked)?)
-}
-
-/// The module of this name.
-pub(crate) fn module_named<'a>(order: &'a [Checked], name: &Name) -> Option<&'a Checked>
-    ensures { option_map (λ c. accepted_of c.now) result ≡
-        find (is_named name.now) (map accepted_of order.now) }
-{
-    for checked in order {
-        if checked.exports.name == *name {
-            return Some(checked);
-        }
-    }
-    None
+    Ok(check_main(alloc, &ByEnv, budget, &built.env, checked)?)
 }
 
 /// The place of what is refused of a whole program.

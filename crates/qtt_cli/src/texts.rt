@@ -9,9 +9,8 @@ ghost use Rattle.qtt_build.specs.Answer.{built_of};
 ghost use Rattle.qtt_outcome.specs.Outcome.{check_text as check_of, checked_text, core_lines as lines_of, core_text as core_of, count_line};
 ghost use Rattle.qtt_cli.specs.Texts.{Adds, count_lines, counts_of};
 
-use crate::program::module_named;
 use qtt_base::{MemoryError, ModuleId, Name};
-use qtt_build::Built;
+use qtt_build::{Built, module_named};
 use qtt_core_print::print_definition;
 use qtt_holes::{Hole, show};
 use qtt_module::Checked;

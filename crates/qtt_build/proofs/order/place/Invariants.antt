@@ -2,7 +2,7 @@ use Rattle.std.proofs.Common.{◌≡◌, drop, map}
 use Rattle.std.specs.List.{list_any}
 use Rattle.qtt_module.specs.TextCalls.{accepted_of}
 use Rattle.qtt_build.specs.Built.{is_named}
-use Rattle.qtt_build.proofs.build.place.Given as goal
+use Rattle.qtt_build.proofs.order.place.Given as goal
 
 -- it is none of those before
 abbrev pub invariant-loop-checked : goal.invariant-loop-checked

@@ -5,7 +5,7 @@ use Rattle.qtt_module.specs.Text.{Accepted}
 use Rattle.qtt_module.specs.TextCalls.{accepted_of}
 use Rattle.qtt_build.specs.Answer.{StandsAt}
 use Rattle.qtt_build.proofs.Placed.{same-is}
-use Rattle.qtt_build.proofs.build.place.Goals as goal
+use Rattle.qtt_build.proofs.order.place.Goals as goal
 
 pub returns-then-eq-clause-some : goal.returns-then-eq-clause-some
 returns-then-eq-clause-some c =
