@@ -2,4 +2,12 @@
 #![tactic(auto)]
 
 #[cfg(test)]
+mod builds;
+#[cfg(test)]
+mod generated;
+#[cfg(test)]
+mod meeting;
+#[cfg(test)]
 mod tests;
+#[cfg(test)]
+mod vault;

@@ -140,6 +140,12 @@ fn the_shortest_way_by_the_earlier_import(rt: HostRuntime) -> Result<(), Fail> {
         module("C", &["A"]),
     ];
     assert!(rt; is_ring(rt.alloc(), &several_ways, &["A", "D", "C"])?);
+    let repeated = [
+        module("A", &["Prim", "C", "B", "C"]),
+        module("B", &["A"]),
+        module("C", &["A"]),
+    ];
+    assert!(rt; is_ring(rt.alloc(), &repeated, &["A", "C"])?);
     Ok(())
 }
 
