@@ -3,15 +3,21 @@
 
 use qtt_cli::qtt_main;
 use qtt_edge::{FileTapes, FolderVault, OpenGate, StdSink, StdSource};
+use std::io::ErrorKind;
 use std::process::ExitCode;
 use std::rt::Env;
-use std::{env, io};
+use std::{env, fs, io};
 
 /// The status where memory runs out.
 const OUT_OF_MEMORY: u8 = 71;
 
 /// The modules and the tapes are files of the current folder.
 fn main(rt: HostRuntime) -> ExitCode {
+    // A folder, which can be neither read nor written, takes the place of each standard stream
+    // that is closed, so that no tape does.
+    let _first = fs::open(&rt, ".");
+    let _second = fs::open(&rt, ".");
+    let _third = fs::open(&rt, ".");
     let Ok(words) = words(&rt) else {
         return ExitCode::from(OUT_OF_MEMORY);
     };
@@ -34,11 +40,20 @@ fn main(rt: HostRuntime) -> ExitCode {
     ExitCode::from(status)
 }
 
-/// The arguments without the program's own name.
+/// The arguments without the program's own name. Where one of them is no text there are none: such
+/// words ask for nothing.
 fn words<R: Env + AllocGlobal>(rt: &R) -> io::Result<Vec<String>> {
     let mut words = Vec::new(rt.alloc());
-    for word in env::args(rt)?.skip(1) {
-        words.push(word)?;
+    match env::args(rt) {
+        Ok(given) => {
+            for word in given.skip(1) {
+                words.push(word)?;
+            }
+            Ok(words)
+        }
+        Err(error) => match error.kind() {
+            ErrorKind::InvalidData => Ok(words),
+            _ => Err(error),
+        },
     }
-    Ok(words)
 }
