@@ -1,0 +1,7 @@
+mod Given
+mod Imported
+mod Found
+mod Read
+mod Counted
+mod Mentioned
+mod Loads
