@@ -37,7 +37,7 @@ use Rattle.qtt_build.specs.Built.{Built, is_named}
 use Rattle.qtt_build.specs.Build.{build}
 use Rattle.qtt_build.specs.Build as builds
 use Rattle.qtt_build.specs.Judged.{RefusesBuild}
-use Rattle.qtt_build.specs.Laws.{BuildsAreJudged, BuildsKeepForm, HasNoHoles, RootsAreBuilt}
+use Rattle.qtt_build.specs.Laws.{BuildsAreJudged, BuildsDeclareOnce, BuildsKeepForm, HasNoHoles, RootsAreBuilt}
 use Rattle.qtt_outcome.specs.Stop.{Stop, Answer, ◌>>=◌, of_build, of_judged, holes_of, all_holes, hole_name, none_of, no_holes, module_named, main_in, main_of, program_of, within, code_of, Runnable, runnable}
 use Rattle.qtt_outcome.specs.Outcome.{Outcome, puts, stopped, outcome_of, check_text, core_text, verdict_status, run_outcome, run_of, counted_outcome, texts_for, root_of, built_for, put, worked}
 use Rattle.qtt_outcome.specs.Headline.{came, HasDerivations, IsGoing, AcceptedIsDerived, wants_no_hole, wants_main, Reason, IsRefused, RefusedForReason, IsAbsent, AbsentIsTold, OneOfThree, IsOver, IsRun, RunsAreEvaluations, MainsMayRun, JobsChangeNothing}
@@ -59,7 +59,7 @@ only-absent Stop.usage e = absurd (let g : 64 ≡ 66 = e in omega (arith, g))
 only-absent (Stop.absent a) e = (a, refl)
 only-absent (Stop.refused x) e = absurd (let g : 1 ≡ 66 = e in omega (arith, g))
 
-stopped-is-not-going : (s : Stop) → IsGoing (stopped s).status → ⊥
+pub stopped-is-not-going : (s : Stop) → IsGoing (stopped s).status → ⊥
 stopped-is-not-going Stop.usage (inl e) = absurd (cc e)
 stopped-is-not-going Stop.usage (inr (inl e)) = absurd (cc e)
 stopped-is-not-going Stop.usage (inr (inr e)) = absurd (cc e)
@@ -291,18 +291,25 @@ runnable-only n root B i =
     (code-only root (program_of B.globals) (excess_of (program_of B.globals))) (λ P. never-stops _))
 
 -- ---- a request
-module _ (judged : BuildsAreJudged) (keeps : BuildsKeepForm) (texts : Texts) (input : List ℕ) (r : Asked) where
-  has : (B : Built) → built_for texts r ≡ Ok B → HasDerivations texts r B
+module _ (judged : BuildsAreJudged) (keeps : BuildsKeepForm) (roots : RootsAreBuilt) (once : BuildsDeclareOnce)
+    (texts : Texts) (input : List ℕ) (r : Asked) where
+  pub has : (B : Built) → built_for texts r ≡ Ok B → HasDerivations texts r B
   has B e =
       let b = built-ok (build (read_in (texts_for texts r.work)) (root_of r.work) r.budget) B e in
       let d = judged.built (read_in (texts_for texts r.work)) (root_of r.work) r.budget B b in
-      record { declares = d; formed = keeps.formed (texts_for texts r.work) (root_of r.work) B d }
+      record {
+        declares = d;
+        formed = keeps.formed (texts_for texts r.work) (root_of r.work) B d;
+        alone = λ C e. once.one (texts_for texts r.work) (root_of r.work) C B e d;
+      }
 
   not-built : (x : Refused) → built_for texts r ≡ Err (Stop.refused x) → Reason texts r x
   not-built x e =
-      Reason.no_build (judged.stopped (read_in (texts_for texts r.work)) (root_of r.work) r.budget
-      (builds.Stop.refused x)
-      (built-refused (build (read_in (texts_for texts r.work)) (root_of r.work) r.budget) x e))
+      let f : RefusesBuild (read_in (texts_for texts r.work)) (root_of r.work) r.budget (builds.Stop.refused x) =
+      judged.stopped (read_in (texts_for texts r.work)) (root_of r.work) r.budget (builds.Stop.refused x)
+      (built-refused (build (read_in (texts_for texts r.work)) (root_of r.work) r.budget) x e) in
+      Reason.no_build f
+      (λ other B d. once.none (texts_for texts r.work) (root_of r.work) r.budget (builds.Stop.refused x) B f other d)
 
   module _ (B : Built) (h : HasDerivations texts r B) where
     -- a refusal of what is to be run
@@ -421,12 +428,12 @@ module _ (judged : BuildsAreJudged) (keeps : BuildsKeepForm) (texts : Texts) (in
           Sound.refused (put-is-sound l.value (has l.value l.first) r.work) refl x l.later
 
   -- over this build the call goes on
-  record Going (o : Outcome) : Type 0 where
-    build_is : Built
-    built : built_for texts r ≡ Ok build_is
-    put_is : put input r build_is r.work ≡ Ok o
+  pub record Going (o : Outcome) : Type 0 where
+    pub build_is : Built
+    pub built : built_for texts r ≡ Ok build_is
+    pub put_is : put input r build_is r.work ≡ Ok o
 
-  worked-ok : (o : Outcome) → worked texts input r ≡ Ok o → Going o
+  pub worked-ok : (o : Outcome) → worked texts input r ≡ Ok o → Going o
   unfolding worked
   worked-ok o h =
       let b = both (built_for texts r) behind_build o h in
@@ -437,64 +444,70 @@ module _ (judged : BuildsAreJudged) (keeps : BuildsKeepForm) (texts : Texts) (in
       Sound.going (put-is-sound g.build_is (has g.build_is g.built) r.work) o g.put_is
 
   -- ---- what stops
-  module _ (roots : RootsAreBuilt) where
-    put-stops : (B : Built) → built_for texts r ≡ Ok B → OnlyRefuses (put input r B r.work)
-    put-stops B e =
-        put-only B (has B e) r.work
-        (roots (texts_for texts r.work) (root_of r.work) r.budget B
-        (built-ok (build (read_in (texts_for texts r.work)) (root_of r.work) r.budget) B e))
+  put-stops : (B : Built) → built_for texts r ≡ Ok B → OnlyRefuses (put input r B r.work)
+  put-stops B e =
+      put-only B (has B e) r.work
+      (roots (texts_for texts r.work) (root_of r.work) r.budget B
+      (built-ok (build (read_in (texts_for texts r.work)) (root_of r.work) r.budget) B e))
 
-    never-for-usage : worked texts input r ≡ Err Stop.usage → ⊥
-    unfolding worked
-    never-for-usage h = by_build (either (built_for texts r) behind_build Stop.usage h)
-      where
-        by_build : (built_for texts r ≡ Err Stop.usage) ⊎ Later (built_for texts r) behind_build Stop.usage → ⊥
-        by_build (inl e) = never-usage (build (read_in (texts_for texts r.work)) (root_of r.work) r.budget) e
-        by_build (inr l) =
-            let s = put-stops l.value l.first Stop.usage l.later in
-            absurd (let g : Stop.usage ≡ Stop.refused s.0 = s.1 in cc g)
+  never-for-usage : worked texts input r ≡ Err Stop.usage → ⊥
+  unfolding worked
+  never-for-usage h = by_build (either (built_for texts r) behind_build Stop.usage h)
+    where
+      by_build : (built_for texts r ≡ Err Stop.usage) ⊎ Later (built_for texts r) behind_build Stop.usage → ⊥
+      by_build (inl e) = never-usage (build (read_in (texts_for texts r.work)) (root_of r.work) r.budget) e
+      by_build (inr l) =
+          let s = put-stops l.value l.first Stop.usage l.later in
+          absurd (let g : Stop.usage ≡ Stop.refused s.0 = s.1 in cc g)
 
-    lacks : (a : Name) → worked texts input r ≡ Err (Stop.absent a) →
-        RefusesBuild (read_in (texts_for texts r.work)) (root_of r.work) r.budget (builds.Stop.absent a)
-    unfolding worked
-    lacks a h = by_build (either (built_for texts r) behind_build (Stop.absent a) h)
-      where
-        by_build : (built_for texts r ≡ Err (Stop.absent a)) ⊎
-            Later (built_for texts r) behind_build (Stop.absent a) →
-            RefusesBuild (read_in (texts_for texts r.work)) (root_of r.work) r.budget (builds.Stop.absent a)
-        by_build (inl e) =
-            judged.stopped (read_in (texts_for texts r.work)) (root_of r.work) r.budget (builds.Stop.absent a)
-            (built-absent (build (read_in (texts_for texts r.work)) (root_of r.work) r.budget) a e)
-        by_build (inr l) =
-            let s = put-stops l.value l.first (Stop.absent a) l.later in
-            absurd (let g : Stop.absent a ≡ Stop.refused s.0 = s.1 in cc g)
+  lacks : (a : Name) → worked texts input r ≡ Err (Stop.absent a) →
+      RefusesBuild (read_in (texts_for texts r.work)) (root_of r.work) r.budget (builds.Stop.absent a)
+  unfolding worked
+  lacks a h = by_build (either (built_for texts r) behind_build (Stop.absent a) h)
+    where
+      by_build : (built_for texts r ≡ Err (Stop.absent a)) ⊎
+          Later (built_for texts r) behind_build (Stop.absent a) →
+          RefusesBuild (read_in (texts_for texts r.work)) (root_of r.work) r.budget (builds.Stop.absent a)
+      by_build (inl e) =
+          judged.stopped (read_in (texts_for texts r.work)) (root_of r.work) r.budget (builds.Stop.absent a)
+          (built-absent (build (read_in (texts_for texts r.work)) (root_of r.work) r.budget) a e)
+      by_build (inr l) =
+          let s = put-stops l.value l.first (Stop.absent a) l.later in
+          absurd (let g : Stop.absent a ≡ Stop.refused s.0 = s.1 in cc g)
 
-    told-absent : (a : Name) →
-        RefusesBuild (read_in (texts_for texts r.work)) (root_of r.work) r.budget (builds.Stop.absent a) →
-        IsAbsent texts r (stopped (Stop.absent a))
-    told-absent a l = record { name = a; lacking = l; told = refl; silent = refl }
+  told-absent : (a : Name) →
+      RefusesBuild (read_in (texts_for texts r.work)) (root_of r.work) r.budget (builds.Stop.absent a) →
+      IsAbsent texts r (stopped (Stop.absent a))
+  told-absent a l = record {
+    name = a;
+    lacking = l;
+    none = λ B d.
+        once.none (texts_for texts r.work) (root_of r.work) r.budget (builds.Stop.absent a) B l (λ f. f) d;
+    told = refl;
+    silent = refl;
+  }
 
-    absent-so : (came texts input r).status ≡ 66 → IsAbsent texts r (came texts input r)
-    absent-so = by_answer (worked texts input r) refl
-      where
-        by_answer : (a : Answer Outcome) → worked texts input r ≡ a → (outcome_of a).status ≡ 66 →
-            IsAbsent texts r (outcome_of a)
-        by_answer (Ok o) e i = absurd (going-is-not-absent o.status (going-status o (worked-ok o e)) i)
-        by_answer (Err s) e i =
-            let n = only-absent s i in
-            subst (λ (t : Stop). IsAbsent texts r (stopped t)) (sym n.1)
-            (told-absent n.0 (lacks n.0 (e ∙ ap (λ (t : Stop). Err t) n.1)))
+  absent-so : (came texts input r).status ≡ 66 → IsAbsent texts r (came texts input r)
+  absent-so = by_answer (worked texts input r) refl
+    where
+      by_answer : (a : Answer Outcome) → worked texts input r ≡ a → (outcome_of a).status ≡ 66 →
+          IsAbsent texts r (outcome_of a)
+      by_answer (Ok o) e i = absurd (going-is-not-absent o.status (going-status o (worked-ok o e)) i)
+      by_answer (Err s) e i =
+          let n = only-absent s i in
+          subst (λ (t : Stop). IsAbsent texts r (stopped t)) (sym n.1)
+          (told-absent n.0 (lacks n.0 (e ∙ ap (λ (t : Stop). Err t) n.1)))
 
-    three-so : IsGoing (came texts input r).status ⊎ ((came texts input r).status ≡ 1) ⊎
-        ((came texts input r).status ≡ 66)
-    three-so = by_answer (worked texts input r) refl
-      where
-        by_answer : (a : Answer Outcome) → worked texts input r ≡ a → IsGoing (outcome_of a).status ⊎
-            ((outcome_of a).status ≡ 1) ⊎ ((outcome_of a).status ≡ 66)
-        by_answer (Ok o) e = inl (going-status o (worked-ok o e))
-        by_answer (Err Stop.usage) e = absurd (never-for-usage e)
-        by_answer (Err (Stop.refused x)) e = inr (inl refl)
-        by_answer (Err (Stop.absent a)) e = inr (inr refl)
+  three-so : IsGoing (came texts input r).status ⊎ ((came texts input r).status ≡ 1) ⊎
+      ((came texts input r).status ≡ 66)
+  three-so = by_answer (worked texts input r) refl
+    where
+      by_answer : (a : Answer Outcome) → worked texts input r ≡ a → IsGoing (outcome_of a).status ⊎
+          ((outcome_of a).status ≡ 1) ⊎ ((outcome_of a).status ≡ 66)
+      by_answer (Ok o) e = inl (going-status o (worked-ok o e))
+      by_answer (Err Stop.usage) e = absurd (never-for-usage e)
+      by_answer (Err (Stop.refused x)) e = inr (inl refl)
+      by_answer (Err (Stop.absent a)) e = inr (inr refl)
 
   -- ---- accepted
   accepted-so : IsGoing (came texts input r).status → (B : Built) × HasDerivations texts r B
@@ -562,20 +575,25 @@ module _ (judged : BuildsAreJudged) (keeps : BuildsKeepForm) (texts : Texts) (in
           (subst (λ (v : Work). put input r g.build_is v ≡ Ok o) w g.put_is)
       by_answer (Err s) e i = absurd (stopped-is-not-going s i)
 
-pub accepted_is_derived_holds : BuildsAreJudged → BuildsKeepForm → AcceptedIsDerived
-accepted_is_derived_holds judged keeps texts input r = accepted-so judged keeps texts input r
+-- ---- the laws, from those of builds
+abbrev pub ByBuilds : Type 0 → Type 0
+ByBuilds law = BuildsAreJudged → BuildsKeepForm → RootsAreBuilt → BuildsDeclareOnce → law
 
-pub refused_for_reason_holds : BuildsAreJudged → BuildsKeepForm → RefusedForReason
-refused_for_reason_holds judged keeps texts input r = refused-so judged keeps texts input r
+pub accepted_is_derived_holds : ByBuilds AcceptedIsDerived
+accepted_is_derived_holds judged keeps roots once texts input r = accepted-so judged keeps roots once texts input r
 
-pub absent_is_told_holds : BuildsAreJudged → BuildsKeepForm → RootsAreBuilt → AbsentIsTold
-absent_is_told_holds judged keeps roots texts input r = absent-so judged keeps texts input r roots
+pub refused_for_reason_holds : ByBuilds RefusedForReason
+refused_for_reason_holds judged keeps roots once texts input r = refused-so judged keeps roots once texts input r
 
-pub one_of_three_holds : BuildsAreJudged → BuildsKeepForm → RootsAreBuilt → OneOfThree
-one_of_three_holds judged keeps roots texts input r = three-so judged keeps texts input r roots
+pub absent_is_told_holds : ByBuilds AbsentIsTold
+absent_is_told_holds judged keeps roots once texts input r = absent-so judged keeps roots once texts input r
 
-pub runs_are_evaluations_holds : BuildsAreJudged → BuildsKeepForm → RunsAreEvaluations
-runs_are_evaluations_holds judged keeps texts input r root w = runs-so judged keeps texts input r root w
+pub one_of_three_holds : ByBuilds OneOfThree
+one_of_three_holds judged keeps roots once texts input r = three-so judged keeps roots once texts input r
+
+pub runs_are_evaluations_holds : ByBuilds RunsAreEvaluations
+runs_are_evaluations_holds judged keeps roots once texts input r root w =
+    runs-so judged keeps roots once texts input r root w
 
 pub mains_may_run_holds : BuildsAreJudged → BuildsKeepForm → MainsMayRun
 mains_may_run_holds judged keeps texts root n B u main built none is =

@@ -1,3 +1,5 @@
 pub mod Answers
 mod Headline
+mod Completeness
+mod Generated
 mod Rows

@@ -39,6 +39,10 @@ call-rows = record {
   core = refl;
   run = refl;
   bound = refl;
+  handle = refl;
+  handle_held = refl;
   hole_told = refl;
   hole_not_run = refl;
+  two_contractions = refl;
+  over_budget = refl;
 }

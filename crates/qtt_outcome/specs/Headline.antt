@@ -1,5 +1,5 @@
 -- What the outcome of a call promises: why modules are accepted and refused, and what a run does.
-use Rattle.std.specs.Prelude.{◌≡◌, ◌⊎◌, ℕ, Bool, true, false, List, [], Some, Ok, Err}
+use Rattle.std.specs.Prelude.{◌≡◌, ◌⊎◌, ◌≤◌, ℕ, Bool, true, false, List, [], Some, Ok, Err}
 use Rattle.qtt_base.specs.declared.place.GlobalId.{GlobalId}
 use Rattle.qtt_graph.specs.Graph.{Name}
 use Rattle.qtt_term.specs.FullRun.{Verdict, full}
@@ -15,6 +15,7 @@ use Rattle.qtt_module.specs.TextCalls.{RefusesMain}
 use Rattle.qtt_build.specs.Built.{Built}
 use Rattle.qtt_build.specs.Build as builds
 use Rattle.qtt_build.specs.Judged.{DeclaresBuild, RefusesBuild}
+use Rattle.qtt_build.specs.Laws.{StoppedByBudget}
 use Rattle.qtt_outcome.specs.Stop.{Stop, no_holes, module_named, main_of, code_of}
 use Rattle.qtt_outcome.specs.Outcome.{Outcome, line, absent_line, texts_for, root_of, worked, outcome_of, run_outcome}
 
@@ -23,10 +24,15 @@ abbrev pub came : Texts → List ℕ → Asked → Outcome
 came texts input r = outcome_of (worked texts input r)
 
 -- ---- accepted
--- by the rules, and without a budget, the modules of the request declare this, in a well-formed environment
+-- by the rules, and without a budget, the modules of the request declare this
+abbrev pub Declares : Texts → Asked → Built → Type 0
+Declares texts r B = DeclaresBuild (read_in (texts_for texts r.work)) (root_of r.work) B
+
+-- the same and nothing else, in a well-formed environment
 pub record HasDerivations (texts : Texts) (r : Asked) (B : Built) : Type 0 where
-  pub declares : DeclaresBuild (read_in (texts_for texts r.work)) (root_of r.work) B
+  pub declares : Declares texts r B
   pub formed : WellFormed (env B.globals)
+  pub alone : (C : Built) → Declares texts r C → C ≡ B
 
 -- a status with which the call has gone on to its command
 abbrev pub IsGoing : ℕ → Type 0
@@ -62,9 +68,10 @@ wants_main (Work.gen n) = true
 -- why a request is refused, a constructor a cause
 pub data Reason (texts : Texts) (r : Asked) : Refused → Type 0 where
   -- a text has a fault, there are too many modules or a ring of them; or a name, a hole to be filled in, a premise or a
-  -- question of the first module that is refused
+  -- question of the first module that is refused; and but for such a question the modules declare nothing
   no_build : {x : Refused} →
       RefusesBuild (read_in (texts_for texts r.work)) (root_of r.work) r.budget (builds.Stop.refused x) →
+      ((StoppedByBudget (builds.Stop.refused x) → ⊥) → (B : Built) → Declares texts r B → ⊥) →
       Reason texts r x
   -- all is accepted, and there is a hole
   hole : {B : Built} {x : Refused} → wants_no_hole r.work ≡ true → HasDerivations texts r B →
@@ -87,16 +94,22 @@ abbrev pub RefusedForReason : Type 0
 RefusedForReason = (texts : Texts) (input : List ℕ) (r : Asked) → (came texts input r).status ≡ 1 →
     IsRefused texts r (came texts input r)
 
--- what is not there is told, and puts nothing out
+-- what is not there is told, and puts nothing out; the modules declare nothing
 pub record IsAbsent (texts : Texts) (r : Asked) (o : Outcome) : Type 0 where
   pub name : Name
   pub lacking : RefusesBuild (read_in (texts_for texts r.work)) (root_of r.work) r.budget (builds.Stop.absent name)
+  pub none : (B : Built) → Declares texts r B → ⊥
   pub told : o.err ≡ line (absent_line name)
   pub silent : o.out ≡ []
 
 abbrev pub AbsentIsTold : Type 0
 AbsentIsTold = (texts : Texts) (input : List ℕ) (r : Asked) → (came texts input r).status ≡ 66 →
     IsAbsent texts r (came texts input r)
+
+-- a request about generated modules lacks none
+abbrev pub GeneratedLackNone : Type 0
+GeneratedLackNone = (texts : Texts) (input : List ℕ) (r : Asked) (n : ℕ) → r.work ≡ Work.gen n → 1 ≤ n → n ≤ 200 →
+    (came texts input r).status ≡ 66 → ⊥
 
 -- ---- runs
 abbrev pub IsOver : Verdict → Type 0

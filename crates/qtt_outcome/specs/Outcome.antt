@@ -1,6 +1,6 @@
 -- What a call of the program comes to where memory is ample and no device fails: its status, the bytes that out and
 -- err gain, and the tapes.
-use Rattle.std.specs.Prelude.{ℕ, List, [], ◌∷◌, ◌++◌, flat_map, length, find, sum_by, Option, Some, None, option_map, Ok, Err, codes, decimal, String, bytes_eq}
+use Rattle.std.specs.Prelude.{ℕ, List, [], ◌∷◌, ◌++◌, flat_map, length, sum_by, Option, Some, None, Ok, Err, codes, decimal, String}
 use Rattle.std.specs.List.{filter}
 use Rattle.std.specs.declared.alloc.Global.{Global}
 use Rattle.qtt_base.specs.declared.place.ModuleId.{ModuleId}
@@ -15,9 +15,9 @@ use Rattle.qtt_core_print.specs.Printing.{definition_text}
 use Rattle.qtt_diag.specs.Messages.{message}
 use Rattle.qtt_holes.specs.HoleText.{hole_text}
 use Rattle.qtt_code.specs.Listing.{listing}
-use Rattle.qtt_gen.specs.Generated.{generated}
 use Rattle.qtt_words.specs.Asked.{Work, Asked, asked}
 use Rattle.qtt_load.specs.Reading.{Texts, read_in}
+use Rattle.qtt_gen_load.specs.Texts.{generated_texts}
 use Rattle.qtt_module.specs.Text.{Accepted}
 use Rattle.qtt_build.specs.Built.{Built}
 use Rattle.qtt_build.specs.Build.{build}
@@ -126,16 +126,6 @@ counts B R Verdict.stuck = []
 
 abbrev pub counted_outcome : Built → Run → Outcome
 counted_outcome B R = run_outcome R (counts B R R.verdict)
-
-abbrev pub text_in : Name × List ℕ → List ℕ
-text_in x = x.1
-
--- the first of each name
-abbrev pub texts_in : List (Name × List ℕ) → Texts
-texts_in texts a = option_map text_in (find (λ (x : Name × List ℕ). bytes_eq x.0 a) texts)
-
-abbrev pub generated_texts : ℕ → Texts
-generated_texts n = texts_in (generated n)
 
 -- ---- the commands
 -- the named module of a build
