@@ -4,7 +4,6 @@ use Rattle.qtt_edge.specs.Counts.{Counts}
 use Rattle.qtt_load.specs.Reading.{Texts}
 use Rattle.qtt_module.specs.Refused.{refused_of}
 use Rattle.qtt_graph.specs.Graph.{Name}
-use Rattle.qtt_build.specs.Built.{Built}
 use Rattle.qtt_build.specs.Answer.{IsBuild, IsAbsent as building_is_absent, built_of}
 use Rattle.qtt_build.specs.declared.built.Built as code
 use Rattle.qtt_build.specs.declared.errors.BuildError.{BuildError}

@@ -2,7 +2,7 @@
 use Rattle.std.proofs.Common.{◌≡◌, ◌∙◌, ◌⊎◌, inl, inr, ℕ, List, [], true, Result, Ok, Err, refl, sym, ap, subst}
 use Rattle.std.specs.Option.{ForSome}
 use Rattle.qtt_edge.specs.Sink.{Adds}
-use Rattle.qtt_words.specs.Asked.{Work, Asked}
+use Rattle.qtt_words.specs.Asked.{Asked}
 use Rattle.qtt_graph.specs.Graph.{Name}
 use Rattle.qtt_load.specs.Reading.{Texts}
 use Rattle.qtt_module.specs.Refused.{refused_of}

@@ -1,9 +1,10 @@
 -- What the status of a call says, by how its work went.
 use Rattle.std.proofs.Common.{◌≡◌, ◌≢◌, ◌∙◌, ◌⊎◌, inl, inr, ℕ, Option, Some, None, Result, sym, ap, subst, arith}
-use Rattle.qtt_words.specs.Asked.{Work, Asked, asked}
+use Rattle.qtt_words.specs.Asked.{Asked, asked}
 use Rattle.qtt_build.specs.Built.{Built}
 use Rattle.qtt_outcome.specs.Outcome.{Outcome, outcome_of, answered, line, usage_line}
-use Rattle.qtt_outcome.specs.Headline.{came, HasDerivations, IsGoing, IsRefused, IsAbsent, IsRun, AcceptedIsDerived, RefusedForReason, AbsentIsTold, RunsAreEvaluations, JobsChangeNothing}
+use Rattle.qtt_outcome.specs.Completeness.{IsReady, GoesOn, IsOverBudget, DerivedGoesOn}
+use Rattle.qtt_outcome.specs.Headline.{came, Declares, HasDerivations, IsGoing, IsRefused, IsAbsent, IsRun, AcceptedIsDerived, RefusedForReason, GeneratedLackNone, AbsentIsTold, RunsAreEvaluations, JobsChangeNothing}
 use Rattle.qtt_cli.specs.declared.device.Device.{Device}
 use Rattle.qtt_cli.specs.declared.stop.Stop.{Stop}
 use Rattle.qtt_cli.specs.declared.verdict.Verdict.{Verdict}
@@ -11,7 +12,7 @@ use Rattle.qtt_cli.specs.Answers.{Call, IsTold, outcome_over, Ends, Left, Due, R
 use Rattle.qtt_cli.specs.Seen.{Over}
 use Rattle.qtt_cli.specs.Parts.{DoesAll}
 use Rattle.qtt_cli.specs.Told.{status_of, line_of, device_line}
-use Rattle.qtt_cli.specs.Works.{ComesTo, Broke, Generates}
+use Rattle.qtt_cli.specs.Works.{ComesTo, Broke}
 use Rattle.qtt_cli.proofs.Overs.{some-over}
 
 -- ---- statuses
@@ -37,6 +38,8 @@ pub record Laws : Type 0 where
   pub reasons : RefusedForReason
   pub lacking : AbsentIsTold
   pub evaluations : RunsAreEvaluations
+  pub complete : DerivedGoesOn
+  pub generated : GeneratedLackNone
   pub jobs : JobsChangeNothing
 
 module _ (laws : Laws) (c : Call) (status : ℕ) where
@@ -75,6 +78,12 @@ module _ (laws : Laws) (c : Call) (status : ℕ) where
               subst (λ (y : Asked). IsRun o.texts o.input y (outcome_over c o)) f
               (subst (λ (y : Outcome). IsRun o.texts o.input r y) (sym same)
               (laws.evaluations o.texts o.input r root (ap (λ (y : Asked). y.work) f ∙ w) (subst IsGoing now going)));
+          complete = λ x B e declares ready.
+              let f = only x e in
+              subst (λ (y : Asked). GoesOn o.texts o.input y B ⊎ IsOverBudget o.texts y (outcome_over c o)) f
+              (subst (λ (y : Outcome). GoesOn o.texts o.input r B ⊎ IsOverBudget o.texts r y) (sym same)
+              (laws.complete o.texts o.input r B (subst (λ (y : Asked). Declares o.texts y B) (sym f) declares)
+              (subst (λ (y : Asked). IsReady y B) (sym f) ready)));
           jobs = λ x j e.
               let f = only x e in
               same ∙ sym (laws.jobs o.texts o.input r j)
@@ -83,7 +92,7 @@ module _ (laws : Laws) (c : Call) (status : ℕ) where
 
     -- the call came to an end that is none of the words' own
     pub answers-asked : (went : Result Verdict Stop) → ComesTo c.seen r went → IsEnd status → status ≢ 64 →
-        (status ≡ 66 → c.seen.missed ⊎ ((x : Asked) × (asked c.words ≡ Some x) × Generates x)) →
+        (status ≡ 66 → c.seen.missed) →
         status ≡ status_of went → IsTold c (line_of went) → Answers c status
     answers-asked went t end other absent s told = record {
       statuses = inl end;
@@ -154,6 +163,7 @@ module _ (laws : Laws) (c : Call) (status : ℕ) where
           refused = λ x e one. absurd (let g : None ≡ Some x = sym is ∙ e in cc g);
           absent = λ x e lacks. absurd (let g : None ≡ Some x = sym is ∙ e in cc g);
           run = λ x root e w going. absurd (let g : None ≡ Some x = sym is ∙ e in cc g);
+          complete = λ x B e declares ready. absurd (let g : None ≡ Some x = sym is ∙ e in cc g);
           jobs = λ x j e. absurd (let g : None ≡ Some x = sym is ∙ e in cc g);
         };
         usage = λ e. is;

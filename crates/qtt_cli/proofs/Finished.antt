@@ -94,9 +94,10 @@ module _ (laws : Laws) (c : Call) (status before now : ℕ)
         (λ s. answers-asked laws c status r is (Err (stop.Absent a)) t.0 (inr (inr (inr s)))
         (λ e. absurd (let g : 66 ≡ 64 = sym s ∙ e in omega (arith, g))) (λ e. lacking t.1) s) f
       where
-        lacking : c.seen.missed ⊎ Generates r → c.seen.missed ⊎ ((x : Asked) × (asked c.words ≡ Some x) × Generates x)
-        lacking (inl m) = inl m
-        lacking (inr g) = inr (r, is, g)
+        lacking : c.seen.missed ⊎ Generates r → c.seen.missed
+        lacking (inl m) = m
+        lacking (inr g) =
+            absurd (laws.generated t.0.over.texts t.0.over.input r g.number g.is g.positive g.bounded t.0.status)
     of-carried (Err (stop.Refused x)) t f =
         ended (Err (stop.Refused x)) t
         (λ s. answers-asked laws c status r is (Err (stop.Refused x)) t (inr (inl s))

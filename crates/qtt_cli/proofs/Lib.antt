@@ -8,6 +8,7 @@ mod Overs
 mod Programs
 mod Ran
 mod Reporting
+mod Rows
 mod Seeing
 mod Shapes
 mod Went

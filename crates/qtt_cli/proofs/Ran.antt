@@ -9,9 +9,10 @@ use Rattle.qtt_run.specs.Front.{Outside}
 use Rattle.qtt_run.specs.Program.{DidAll}
 use Rattle.qtt_graph.specs.Graph.{Name}
 use Rattle.qtt_load.specs.Reading.{Texts}
+use Rattle.qtt_gen_load.specs.Texts.{generated_texts}
 use Rattle.qtt_build.specs.Built.{Built}
 use Rattle.qtt_outcome.specs.Stop.{◌>>=◌, Runnable, runnable}
-use Rattle.qtt_outcome.specs.Outcome.{Outcome, outcome_of, verdict_status, verdict_line, run_outcome, run_of, counts, counted_outcome, generated_texts, texts_for, root_of, worked}
+use Rattle.qtt_outcome.specs.Outcome.{Outcome, outcome_of, verdict_status, verdict_line, run_outcome, run_of, counts, counted_outcome, texts_for, root_of, worked}
 use Rattle.qtt_outcome.specs.Headline.{came}
 use Rattle.qtt_cli.specs.declared.device.Device.TheVariants as device
 use Rattle.qtt_cli.specs.declared.stop.Stop.{Stop}

@@ -6,7 +6,8 @@ use Rattle.qtt_load.specs.Reading.{Texts, read_in}
 use Rattle.qtt_build.specs.Built.{Built}
 use Rattle.qtt_build.specs.Build.{build}
 use Rattle.qtt_outcome.specs.Stop.{Answer, ◌>>=◌, of_build, no_holes, Runnable, runnable}
-use Rattle.qtt_outcome.specs.Outcome.{Outcome, puts, check_text, core_text, run_outcome, run_of, counted_outcome, generated_texts, texts_for, root_of, built_for, put, worked}
+use Rattle.qtt_gen_load.specs.Texts.{generated_texts}
+use Rattle.qtt_outcome.specs.Outcome.{Outcome, puts, check_text, core_text, run_outcome, run_of, counted_outcome, texts_for, root_of, built_for, put, worked}
 use Rattle.qtt_cli.specs.Commands.{built_over, check_for, core_for, over_build, program_for, listed, code_for}
 
 -- ---- a text that is put

@@ -7,12 +7,12 @@ use Rattle.qtt_words.specs.Asked.{Work, Asked, asked}
 use Rattle.qtt_run.specs.Front.{Failure}
 use Rattle.qtt_build.specs.Built.{Built}
 use Rattle.qtt_outcome.specs.Outcome.{Outcome, line, outcome}
-use Rattle.qtt_outcome.specs.Headline.{came, HasDerivations, IsGoing, IsRefused, IsAbsent, IsRun}
+use Rattle.qtt_outcome.specs.Completeness.{IsReady, GoesOn, IsOverBudget}
+use Rattle.qtt_outcome.specs.Headline.{came, Declares, HasDerivations, IsGoing, IsRefused, IsAbsent, IsRun}
 use Rattle.qtt_cli.specs.declared.device.Device.{Device}
 use Rattle.qtt_cli.specs.Seen.{Seen, Over}
 use Rattle.qtt_cli.specs.Parts.{DoesNothing, DoesAll, Part, Breaks}
 use Rattle.qtt_cli.specs.Told.{device_line, memory_line}
-use Rattle.qtt_cli.specs.Works.{Generates}
 
 pub record Call : Type 1 where
   pub words : List (String Global)
@@ -46,6 +46,10 @@ pub record Ends (c : Call) (status : ℕ) : Type 0 where
   -- once where it ends or traps
   pub run : (r : Asked) (root : Name) → asked c.words ≡ Some r → r.work ≡ Work.run root → IsGoing status →
       IsRun over.texts over.input r (outcome_over c over)
+  -- what the modules declare by the rules, where it is ready, is gone on over, unless a question takes more than the
+  -- budget
+  pub complete : (r : Asked) (B : Built) → asked c.words ≡ Some r → Declares over.texts r B → IsReady r B →
+      GoesOn over.texts over.input r B ⊎ IsOverBudget over.texts r (outcome_over c over)
   -- the number of jobs changes nothing
   pub jobs : (r : Asked) (j : ℕ) → asked c.words ≡ Some r →
       outcome_over c over ≡ came over.texts over.input (record r { jobs = j })
@@ -91,7 +95,7 @@ pub record Answers (c : Call) (status : ℕ) : Type 0 where
   pub ends : IsEnd status → Ends c status
   pub usage : status ≡ 64 → asked c.words ≡ None
   pub usage_always : asked c.words ≡ None → (status ≡ 64) ⊎ (status ≡ 71)
-  -- 66 only where the vault lacked a module in this call; of generated modules that is not shown
-  pub absent : status ≡ 66 → c.seen.missed ⊎ ((r : Asked) × (asked c.words ≡ Some r) × Generates r)
+  -- 66 only where the vault lacked a module in this call
+  pub absent : status ≡ 66 → c.seen.missed
   pub failed : status ≡ 74 → Failed c
   pub memory : status ≡ 71 → RunsOut c

@@ -2,6 +2,7 @@ pub mod Answers
 pub mod Commands
 pub mod Parts
 pub mod Printed
+pub mod Rows
 pub mod Running
 pub mod Seen
 pub mod Stops

@@ -15,7 +15,7 @@ use Rattle.qtt_build.specs.Answer.{built_of}
 use Rattle.qtt_module.specs.declared.checked.Checked.{Checked}
 use Rattle.qtt_module.specs.TextCalls.{accepted_of}
 use Rattle.qtt_outcome.specs.Stop.{Runnable, hole_name, holes_of}
-use Rattle.qtt_outcome.specs.Outcome.{texts_in}
+use Rattle.qtt_gen_load.specs.Texts.{texts_in}
 use Rattle.qtt_cli.specs.declared.generated.GeneratedVault.{GeneratedVault}
 use Rattle.qtt_cli.specs.declared.program.Runnable as code
 use Rattle.qtt_cli.specs.declared.verdict.Verdict.{Verdict}

@@ -1,5 +1,5 @@
 -- What carrying out a request comes to, and what the whole work does.
-use Rattle.std.specs.Prelude.{◌≡◌, ℕ, List, ◌⊎◌, Option, Some, None, Result, Ok, Err, String}
+use Rattle.std.specs.Prelude.{◌≡◌, ◌≤◌, ℕ, Bool, true, List, ◌⊎◌, Option, Some, None, Result, Ok, Err, String}
 use Rattle.std.specs.declared.alloc.Global.{Global}
 use Rattle.qtt_words.specs.Asked.{Work, Asked, asked}
 use Rattle.qtt_run.specs.Front.{Failure, Outside}
@@ -10,7 +10,7 @@ use Rattle.qtt_cli.specs.declared.stop.Stop.{Stop}
 use Rattle.qtt_cli.specs.declared.stop.Stop.TheVariants as stop
 use Rattle.qtt_cli.specs.declared.verdict.Verdict.{Verdict}
 use Rattle.qtt_cli.specs.Seen.{Seen, one_of, Over}
-use Rattle.qtt_cli.specs.Parts.{DoesNothing, DoesAll, Part, Breaks}
+use Rattle.qtt_cli.specs.Parts.{DoesNothing, DoesAll, Part, prints, Breaks}
 use Rattle.qtt_cli.specs.Told.{status_of, line_of}
 
 -- over some texts and input the request comes to this, and all of that is done
@@ -34,6 +34,8 @@ pub record Broke (s : Seen) (r : Asked) (d : Device) : Type 0 where
 pub record Generates (r : Asked) : Type 0 where
   pub number : ℕ
   pub is : r.work ≡ Work.gen number
+  pub positive : 1 ≤ number
+  pub bounded : number ≤ 200
 
 abbrev pub Carries : Seen → Asked → Result Verdict Stop → Type 0
 Carries s r (Ok v) = ComesTo s r (Ok v)
@@ -52,6 +54,11 @@ RunsGenerated r input o went = (texts : Texts) → Carries (record {
   failed = one_of ⊥ (Unit {0}) (Unit {0}) (Unit {0});
   missed = ⊥;
 }) r went
+
+-- what the words ask for runs nothing
+abbrev pub leaves_input : Option Asked → Bool
+leaves_input None = true
+leaves_input (Some r) = prints r.work
 
 -- the work of these words
 pub data Works (words : List (String Global)) (s : Seen) : Result Verdict Stop → Type 0 where

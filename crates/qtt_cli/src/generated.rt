@@ -4,7 +4,7 @@ ghost use Rattle.std.specs.Prelude.{◌≡◌, ◌≤◌, Some, IfOk, IsErrOf, c
 ghost use Rattle.qtt_edge.specs.Counts.{Counts};
 ghost use Rattle.qtt_edge.specs.Vault.{Reads};
 ghost use Rattle.qtt_gen.specs.Seen.{seen};
-ghost use Rattle.qtt_outcome.specs.Outcome.{generated_texts, texts_in};
+ghost use Rattle.qtt_gen_load.specs.Texts.{generated_texts, texts_in};
 ghost use Rattle.qtt_cli.specs.Views.{told};
 
 use qtt_base::{MemoryError, Name};

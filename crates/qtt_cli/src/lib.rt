@@ -6,13 +6,16 @@
 //! tell: its status, what `out` gained, the tapes and the line on `err`. A request that goes on is
 //! accepted by the rules; what is refused has a reason, and is told so; what `run` shows is the
 //! full evaluation of main within the steps, with each tape closed exactly once where it ends or
-//! traps; the number of jobs changes nothing. With 74 a device failed in this call, and `err` is
+//! traps; the number of jobs changes nothing. It is complete: over what the modules declare by the
+//! rules a request that is ready goes on, unless a question takes more than the budget. Nothing of
+//! the input is read but by a run. With 74 a device failed in this call, and `err` is
 //! told which; with that, and with want of memory (71), what was done is a part of the outcome
-//! (`specs/Parts`).
+//! (`specs/Parts`). Worked: `examples`.
 #![tactic(auto)]
 
 mod device;
 mod ending;
+pub mod examples;
 mod generated;
 mod holes;
 mod printing;
@@ -24,18 +27,20 @@ mod texts;
 mod verdict;
 mod work;
 
-ghost use Rattle.std.specs.Prelude.{◌≡◌, []};
+ghost use Rattle.std.specs.Prelude.{◌≡◌, [], true};
 ghost use Rattle.std.specs.Option.{ForSome};
 ghost use Rattle.qtt_edge.specs.Counts.{Rose};
+ghost use Rattle.qtt_words.specs.Asked.{asked};
 ghost use Rattle.qtt_cli.specs.Answers.{Answers};
 ghost use Rattle.qtt_cli.specs.Seen.{one_of};
+ghost use Rattle.qtt_cli.specs.Works.{leaves_input};
 
 use crate::ending::finish;
 use crate::work::work;
 use qtt_edge::{Gate, Sink, Source, Tapes, Vault};
 use qtt_outcome::laws::{
-    absent_is_told, accepted_is_derived, jobs_change_nothing, refused_for_reason,
-    runs_are_evaluations,
+    absent_is_told, accepted_is_derived, derived_goes_on, generated_lack_none, jobs_change_nothing,
+    refused_for_reason, runs_are_evaluations,
 };
 use std::alloc::Global;
 use std::thread::Threads;
@@ -75,11 +80,15 @@ pub fn qtt_main<R: Threads + Sync, V: Vault, I: Source, O: Sink, E: Sink, T: Tap
       err_failed = Rose (E.faults err.old) (E.faults err.new);
     }) result }
     ensures texts_stay { V.texts vault.new ≡ V.texts vault.old }
+    ensures input_stays { leaves_input (asked words.now) ≡ true →
+        I.content input.new ≡ I.content input.old }
 {
     accepted_is_derived();
     refused_for_reason();
     absent_is_told();
     runs_are_evaluations();
+    derived_goes_on();
+    generated_lack_none();
     jobs_change_nothing();
     let went = work(rt, alloc, words, vault, input, out, tapes, gate);
     finish(alloc, err, went)

@@ -1,11 +1,13 @@
 //! What the words ask for, carried out.
 
-ghost use Rattle.std.specs.Prelude.{◌≡◌, []};
+ghost use Rattle.std.specs.Prelude.{◌≡◌, [], true};
 ghost use Rattle.std.specs.Option.{ForSome};
 ghost use Rattle.qtt_edge.specs.Counts.{Rose};
+ghost use Rattle.qtt_words.specs.Asked.{asked};
 ghost use Rattle.qtt_words.specs.Requested.{requested};
+ghost use Rattle.qtt_cli.specs.Parts.{prints};
 ghost use Rattle.qtt_cli.specs.Seen.{one_of};
-ghost use Rattle.qtt_cli.specs.Works.{Carries, Works};
+ghost use Rattle.qtt_cli.specs.Works.{Carries, Works, leaves_input};
 
 use crate::printing::{check, code, core, put};
 use crate::program::program;
@@ -45,6 +47,8 @@ pub(crate) fn work<R: Threads + Sync, V: Vault, I: Source, O: Sink, T: Tapes, G:
       missed = Rose (V.misses vault.old) (V.misses vault.new);
     }) result }
     ensures same { V.texts vault.new ≡ V.texts vault.old }
+    ensures input_stays { leaves_input (asked words.now) ≡ true →
+        I.content input.new ≡ I.content input.old }
 {
     match read_words(alloc, words)? {
         Some(request) => carry_out(rt, alloc, &request, vault, input, out, tapes, gate),
@@ -80,6 +84,8 @@ fn carry_out<R: Threads + Sync, V: Vault, I: Source, O: Sink, T: Tapes, G: Gate>
       missed = Rose (V.misses vault.old) (V.misses vault.new);
     }) (requested request.now) result }
     ensures same { V.texts vault.new ≡ V.texts vault.old }
+    ensures input_stays { prints (requested request.now).work ≡ true →
+        I.content input.new ≡ I.content input.old }
 {
     match &request.command {
         Command::Check(root) => put(out, &check(rt, alloc, vault, gate, root, request)?),

@@ -10,6 +10,8 @@ returns-clause-answers g c =
       reasons = c.refused_for_reason.ensures;
       lacking = c.absent_is_told.ensures;
       evaluations = c.runs_are_evaluations.ensures;
+      complete = c.derived_goes_on.ensures;
+      generated = c.generated_lack_none.ensures;
       jobs = c.jobs_change_nothing.ensures;
     } in
     let before = g.E.Sink.faults c.args.err.now in

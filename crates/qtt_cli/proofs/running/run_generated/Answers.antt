@@ -6,7 +6,8 @@ use Rattle.qtt_words.specs.Requested.{requested}
 use Rattle.qtt_load.specs.Reading.{Texts}
 use Rattle.qtt_module.specs.TextCalls.{accepted_of}
 use Rattle.qtt_run.specs.Program.{DidAll}
-use Rattle.qtt_outcome.specs.Outcome.{generated_texts, run_of}
+use Rattle.qtt_gen_load.specs.Texts.{generated_texts}
+use Rattle.qtt_outcome.specs.Outcome.{run_of}
 use Rattle.qtt_cli.specs.declared.verdict.Verdict.{Verdict}
 use Rattle.qtt_cli.specs.Commands.{program_for}
 use Rattle.qtt_cli.specs.Printed.{Puts}
@@ -40,7 +41,12 @@ returns-in_err-program-clause-runs g c texts =
     (λ i q. Ok (ran_counted r i q)) (λ t i. shape-gen t i r n gen) c.program.result e c.in_err-program.was
     (answers-apart (generated_texts n) (program_for (codes "Main") r.budget) program_of (Some texts) texts refl
     c.program.result all) (does-nothing (g.O.Sink.content c.args.out.now) (g.T.Tapes.tapes c.args.tapes.now))
-    (λ a. inr (record { number = n; is = gen })) (λ f. never-rises (c.program.ensures.failed.rose f)))
+    (λ a. inr (record {
+      number = n;
+      is = gen;
+      positive = c.args.generation.now.positive;
+      bounded = c.args.generation.now.bounded;
+    })) (λ f. never-rises (c.program.ensures.failed.rose f)))
 
 pub returns-in_err-went-clause-runs : goal.returns-in_err-went-clause-runs
 returns-in_err-went-clause-runs g c texts =

@@ -1,6 +1,6 @@
 use Rattle.std.proofs.Common.{◌≡◌, Some, option_map, find, map, true, false, sym, ap, ◌∙◌}
 use Rattle.qtt_gen.specs.Seen.{seen}
-use Rattle.qtt_outcome.specs.Outcome.{text_in}
+use Rattle.qtt_gen_load.specs.Texts.{text_in}
 use Rattle.qtt_cli.specs.Views.{is_of}
 use Rattle.qtt_cli.proofs.Found.{found-here, found-later}
 use Rattle.qtt_cli.proofs.generated.GeneratedVault.text.Goals as goal
