@@ -1,78 +1,23 @@
 //! The same questions answered both ways, at the same budgets.
 
-use qtt_base::{GlobalId, ModuleId};
-use qtt_conv::BySubst;
-use qtt_envconv::ByEnv;
+mod alike;
+mod deciding;
+mod depth;
+mod generated;
+mod terms;
+
+use alike::{answer_both_ways, head_both_ways};
 use qtt_prims::Primitive;
 use qtt_programs::naturals::{program, successor, sum};
-use qtt_programs::terms::{branch, call, int, item};
-use qtt_term::{Answer, Case, ConId, Converter, Delete, Globals, Head, Term};
+use qtt_programs::terms::{call, int, item};
+use qtt_term::{Globals, Term};
 use qtt_usage::mult::Mult;
 use std::alloc::Global;
 use std::test::Fail;
-
-/// Families of the module Prim.
-const BOOL: GlobalId = GlobalId {
-    module: ModuleId(0),
-    item: 4,
-};
-
-const EQ: GlobalId = GlobalId {
-    module: ModuleId(0),
-    item: 13,
-};
+use terms::{case, con, delete, function, nested, three_is_three};
 
 /// Budgets at which all is asked.
 const BUDGETS: [u64; 7] = [0, 1, 2, 3, 4, 10, 11];
-
-/// A constructor of a family, with fields.
-fn con(alloc: Global, family: GlobalId, place: u32, fields: Vec<Term>) -> Term {
-    Term::Con(ConId { family, place }, Vec::new(alloc), fields)
-}
-
-/// A function at this multiplicity from Int.
-fn function(alloc: Global, mult: Mult, body: Term) -> Result<Term, Fail> {
-    Ok(Term::lam(alloc, mult, Term::IntTy, body)?)
-}
-
-/// A Case on a Bool, to Int: 0 where it is false.
-fn case(alloc: Global, if_true: Term, scrutinee: Term) -> Result<Term, Fail> {
-    let case = Case {
-        mult: Mult::Many,
-        family: BOOL,
-        params: Vec::new(alloc),
-        indices: 0,
-        motive: Term::IntTy,
-        branches: vec![in alloc; branch(0, int(0)), branch(0, if_true)]?,
-        scrutinee,
-    };
-    Ok(Term::Case(Box::new(alloc, case)?))
-}
-
-/// 1, by a proof that 3 is 3.
-fn delete_of_refl(alloc: Global) -> Result<Term, Fail> {
-    let con = ConId {
-        family: EQ,
-        place: 0,
-    };
-    let delete = Delete {
-        mult: Mult::Many,
-        ty: Term::IntTy,
-        point: int(3),
-        motive: Term::IntTy,
-        branch: int(1),
-        scrutinee: Term::Con(con, vec![in alloc; Term::IntTy, int(3)]?, Vec::new(alloc)),
-    };
-    Ok(Term::Delete(Box::new(alloc, delete)?))
-}
-
-/// A constructor with another one, with a match, with a sum to which this number is added.
-fn nested(alloc: Global, number: i64) -> Result<Term, Fail> {
-    let sum = call(alloc, Primitive::AddInt, Term::Var(0), int(number))?;
-    let inner = vec![in alloc; case(alloc, sum, Term::Var(1))?]?;
-    let fields = vec![in alloc; Term::Var(0), con(alloc, BOOL, 1, inner)]?;
-    Ok(con(alloc, BOOL, 0, fields))
-}
 
 /// Numbers: literals, sums, a division by zero, and matches on comparisons.
 fn push_numbers(alloc: Global, terms: &mut Vec<Term>) -> Result<(), Fail> {
@@ -88,7 +33,7 @@ fn push_numbers(alloc: Global, terms: &mut Vec<Term>) -> Result<(), Fail> {
     terms.push(case(alloc, int(3), below)?)?;
     let above = call(alloc, Primitive::LtInt, int(2), int(1))?;
     terms.push(case(alloc, int(3), above)?)?;
-    terms.push(delete_of_refl(alloc)?)?;
+    terms.push(delete(alloc, int(1), three_is_three(alloc)?)?)?;
     terms.push(nested(alloc, 1)?)?;
     terms.push(nested(alloc, 2)?)?;
     Ok(())
@@ -129,45 +74,20 @@ fn push_definitions(alloc: Global, terms: &mut Vec<Term>) -> Result<(), Fail> {
     Ok(())
 }
 
-fn same_head(one: &Head, other: &Head) -> bool {
-    match (one, other) {
-        (Head::Done(t, m), Head::Done(u, n)) => t.same(u) && m == n,
-        (Head::Spent, Head::Spent) => true,
-        _ => false,
-    }
-}
-
-fn same_answer(one: &Answer, other: &Answer) -> bool {
-    match (one, other) {
-        (Answer::Equal, Answer::Equal) => true,
-        (Answer::Different(path), Answer::Different(place)) => path.as_slice() == place.as_slice(),
-        (Answer::Spent, Answer::Spent) => true,
-        _ => false,
-    }
-}
-
-/// Whether both ways find the same head of a term at each budget.
-fn heads_agree(alloc: Global, env: &Globals, t: &Term) -> Result<bool, Fail> {
+/// Asks for the head of a term at each budget.
+fn ask_heads(alloc: Global, env: &Globals, t: &Term) -> Result<(), Fail> {
     for n in BUDGETS {
-        let one = BySubst.head(alloc, n, env, t)?;
-        let other = ByEnv.head(alloc, n, env, t)?;
-        if !same_head(&one, &other) {
-            return Ok(false);
-        }
+        let _head = head_both_ways(alloc, n, env, t)?;
     }
-    Ok(true)
+    Ok(())
 }
 
-/// Whether both ways give the same answer on two terms at each budget.
-fn answers_agree(alloc: Global, env: &Globals, t: &Term, u: &Term) -> Result<bool, Fail> {
+/// Asks for the answer on two terms at each budget.
+fn ask_answers(alloc: Global, env: &Globals, t: &Term, u: &Term) -> Result<(), Fail> {
     for n in BUDGETS {
-        let one = BySubst.compare(alloc, n, env, t, u)?;
-        let other = ByEnv.compare(alloc, n, env, t, u)?;
-        if !same_answer(&one, &other) {
-            return Ok(false);
-        }
+        let _answer = answer_both_ways(alloc, n, env, t, u)?;
     }
-    Ok(true)
+    Ok(())
 }
 
 /// Each of the terms, and each two of them.
@@ -180,63 +100,10 @@ fn both_ways_agree(rt: HostRuntime) -> Result<(), Fail> {
     push_functions(alloc, &mut terms)?;
     push_definitions(alloc, &mut terms)?;
     for t in &terms {
-        assert!(rt; heads_agree(alloc, &env, t)?);
+        ask_heads(alloc, &env, t)?;
         for u in &terms {
-            assert!(rt; answers_agree(alloc, &env, t, u)?);
+            ask_answers(alloc, &env, t, u)?;
         }
     }
-    Ok(())
-}
-
-/// The identity at a variable, applied to so many arguments more.
-fn applied(alloc: Global, count: u32) -> Result<Term, Fail> {
-    let identity = function(alloc, Mult::Many, Term::Var(0))?;
-    let mut call = Term::app(alloc, Mult::Many, identity, Term::Var(0))?;
-    for _ in 0..count {
-        call = Term::app(alloc, Mult::Many, call, Term::IntTy)?;
-    }
-    Ok(call)
-}
-
-/// What stands below all arguments, or below so many. The applications are let go one by one from
-/// outside, which takes no stack.
-fn innermost(t: Term, most: u32) -> Term {
-    let mut inner = t;
-    for _ in 0..most {
-        match function_of(&mut inner) {
-            Some(function) => inner = function,
-            None => return inner,
-        }
-    }
-    inner
-}
-
-/// What an application applies, out of its place.
-fn function_of(t: &mut Term) -> Option<Term> {
-    match t {
-        Term::App(_, function, _) => Some(function.take()),
-        _ => None,
-    }
-}
-
-/// The identity at a variable, under 50,000 applications, is equal to its head after the one
-/// contraction that gives it, and not before.
-#[test]
-fn deep_terms_take_no_stack(rt: HostRuntime) -> Result<(), Fail> {
-    let alloc = rt.alloc();
-    let env = Globals::prim(alloc)?;
-    let deep = applied(alloc, 50_000)?;
-    let Head::Done(head, made) = ByEnv.head(alloc, 1, &env, &deep)? else {
-        return Err(Fail::from("spent"));
-    };
-    let before = ByEnv.compare(alloc, 0, &env, &deep, &head)?;
-    let after = ByEnv.compare(alloc, 1, &env, &deep, &head)?;
-    let identity = innermost(deep, u32::MAX);
-    let variable = innermost(head, u32::MAX);
-    assert_eq!(rt; made, 1);
-    assert!(rt; same_answer(&before, &Answer::Spent));
-    assert!(rt; same_answer(&after, &Answer::Equal));
-    assert!(rt; identity.same(&function(alloc, Mult::Many, Term::Var(0))?));
-    assert!(rt; variable.same(&Term::Var(0)));
     Ok(())
 }
