@@ -5,7 +5,7 @@ use std::alloc::Global;
 use std::test::Fail;
 use std::thread::Threads;
 
-fn module<'a>(name: &'a str, text: &'a str) -> Stored<'a> {
+pub fn module<'a>(name: &'a str, text: &'a str) -> Stored<'a> {
     Stored { name, text }
 }
 
@@ -34,7 +34,7 @@ main = putLine (showInt (A.inc 41))
 ";
 
 /// Whether a call over these modules leaves that.
-fn leaves<R: Threads + Sync>(
+pub fn leaves<R: Threads + Sync>(
     rt: &R,
     alloc: Global,
     modules: &[Stored],
@@ -122,7 +122,7 @@ fn the_first_refusal_of_a_rank_is_told(rt: HostRuntime) -> Result<(), Fail> {
         module("P", "module P\nx : Int\nx = y\n"),
         module("Q", "module Q\nx : Int\nx = \"a\"\n"),
     ];
-    for jobs in ["1", "2", "64"] {
+    for jobs in ["1", "2", "8", "64"] {
         let words = ["check", "Main", "--jobs", jobs];
         assert!(rt; leaves(&rt, alloc, &modules, &words, 1, "", "P:3:5: 10 Unbound y\n")?);
     }
@@ -131,7 +131,7 @@ fn the_first_refusal_of_a_rank_is_told(rt: HostRuntime) -> Result<(), Fail> {
 
 const ONE: &str = "3\n4\n5\n6\nmodules 5\ndefinitions 9\ncontractions 34\n";
 
-const SEVEN: &str = "26738
+pub const SEVEN: &str = "26738
 27723
 28488
 28597

@@ -128,6 +128,16 @@ pub fn call<R: Threads + Sync>(
     call_failing(rt, alloc, modules, words, input, Failing::none(alloc))
 }
 
+/// A call over the module Main of this text, where no device fails and the input is empty.
+pub fn over_main<R: Threads + Sync>(
+    rt: &R,
+    alloc: Global,
+    text: &str,
+    words: &[&str],
+) -> Result<Left, Fail> {
+    call(rt, alloc, &[Stored { name: "Main", text }], words, b"")
+}
+
 /// A call over the module Main of this text, and what it is to leave.
 #[derive(Clone, Copy)]
 pub struct Row<'a> {

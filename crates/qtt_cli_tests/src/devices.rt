@@ -6,14 +6,14 @@ use std::alloc::Global;
 use std::test::Fail;
 use std::thread::Threads;
 
-const TWO_LINES: &str = "module Main
+pub const TWO_LINES: &str = "module Main
 main : IO Unit
 main = do
   putLine \"a\"
   putLine \"b\"
 ";
 
-const HANDLES: &str = "module Main
+pub const HANDLES: &str = "module Main
 main : IO Unit
 main = do
   h <- open \"a\"
@@ -22,7 +22,7 @@ main = do
   close h3
 ";
 
-const TRAP_BEHIND_OPEN: &str = "module Main
+pub const TRAP_BEHIND_OPEN: &str = "module Main
 main : IO Unit
 main = do
   h <- open \"a\"
@@ -43,7 +43,7 @@ step (Got s) = do
 ";
 
 /// A run of the module Main of this text.
-fn run_failing<R: Threads + Sync>(
+pub fn run_failing<R: Threads + Sync>(
     rt: &R,
     alloc: Global,
     text: &str,

@@ -3,7 +3,7 @@
 use crate::calls::{Row, all_hold, holds};
 use std::test::Fail;
 
-const VECTORS: &str = "module Main
+pub const VECTORS: &str = "module Main
 data Nat : Type where
   Z : Nat
   S : Nat -> Nat
@@ -23,7 +23,7 @@ main : IO Unit
 main = putLine (showInt (total (plus (S (S Z)) (S Z)) (append Int (S (S Z)) (S Z) (Cons (S Z) 4 (Cons Z 5 Nil)) (Cons Z 6 Nil))))
 ";
 
-const IMPLICIT_VECTORS: &str = "module Main
+pub const IMPLICIT_VECTORS: &str = "module Main
 data Nat : Type where
   Z : Nat
   S : Nat -> Nat
@@ -43,13 +43,13 @@ main : IO Unit
 main = putLine (showInt (total (append (Cons 4 (Cons 5 Nil)) (Cons 6 Nil))))
 ";
 
-const HELLO: &str = "module Main
+pub const HELLO: &str = "module Main
 main : IO Unit
 main = do
   putLine \"hello\"
 ";
 
-const IDENTITY: &str = "module Main
+pub const IDENTITY: &str = "module Main
 id : (1 x : Int) -> Int
 id x = x
 main : IO Unit
@@ -76,14 +76,14 @@ main : IO Unit
 main = putLine (cast Int String bad 3)
 ";
 
-const LOOP: &str = "module Main
+pub const LOOP: &str = "module Main
 loop : IO Unit
 loop = do putLine \"x\"; loop
 main : IO Unit
 main = loop
 ";
 
-const ZERO_FIRST: &str = "module Main
+pub const ZERO_FIRST: &str = "module Main
 partial no : Bool -> Int
 no True = 1
 main : IO Unit
@@ -97,7 +97,7 @@ main : IO Unit
 main = putLine (showInt (addInt (no False) (divInt 1 0)))
 ";
 
-const ECHO: &str = "module Main
+pub const ECHO: &str = "module Main
 step : Line -> IO Unit
 main : IO Unit
 main = do
@@ -109,7 +109,7 @@ step (Got s) = do
   main
 ";
 
-const BOXED: &str = "module Main
+pub const BOXED: &str = "module Main
 data Box : Type where
   MkBox : (0 n : Int) -> (1 s : Int) -> Box
 b : Box
@@ -135,7 +135,7 @@ main : IO Unit
 main = putLine (showInt (left (four (four (four dbl)) Leaf)))
 ";
 
-const HOLE_BEHIND_HANDLES: &str = "module Main
+pub const HOLE_BEHIND_HANDLES: &str = "module Main
 main : IO Unit
 main = do
   h <- open \"a\"
@@ -143,14 +143,14 @@ main = do
   ?rest
 ";
 
-const RUN: &[&str] = &["run", "Main"];
+pub const RUN: &[&str] = &["run", "Main"];
 
-const CHECK: &[&str] = &["check", "Main"];
+pub const CHECK: &[&str] = &["check", "Main"];
 
-const CORE: &[&str] = &["core", "Main"];
+pub const CORE: &[&str] = &["core", "Main"];
 
 /// What is put with status 0.
-fn done<'a>(text: &'a str, words: &'a [&'a str], out: &'a str) -> Row<'a> {
+pub fn done<'a>(text: &'a str, words: &'a [&'a str], out: &'a str) -> Row<'a> {
     Row {
         text,
         words,
@@ -162,7 +162,7 @@ fn done<'a>(text: &'a str, words: &'a [&'a str], out: &'a str) -> Row<'a> {
 }
 
 /// What is told with a status, where nothing is put.
-fn told<'a>(text: &'a str, words: &'a [&'a str], status: u8, err: &'a str) -> Row<'a> {
+pub fn told<'a>(text: &'a str, words: &'a [&'a str], status: u8, err: &'a str) -> Row<'a> {
     Row {
         text,
         words,
@@ -173,7 +173,7 @@ fn told<'a>(text: &'a str, words: &'a [&'a str], status: u8, err: &'a str) -> Ro
     }
 }
 
-const BOUND: &str = "step bound reached\n";
+pub const BOUND: &str = "step bound reached\n";
 
 #[test]
 fn programs_run(rt: HostRuntime) -> Result<(), Fail> {
@@ -392,7 +392,7 @@ fn holes_are_told_and_not_run(rt: HostRuntime) -> Result<(), Fail> {
     Ok(())
 }
 
-const USAGE: &str = "usage: qtt COMMAND MODULE [--steps N] [--budget N] [--jobs N]\n";
+pub const USAGE: &str = "usage: qtt COMMAND MODULE [--steps N] [--budget N] [--jobs N]\n";
 
 #[test]
 fn other_words_get_the_usage(rt: HostRuntime) -> Result<(), Fail> {
