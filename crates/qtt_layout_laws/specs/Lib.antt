@@ -1,0 +1,7 @@
+pub mod Words
+pub mod Blocks
+pub mod Counts
+pub mod Texts
+pub mod Openings
+pub mod Laws
+pub mod Examples

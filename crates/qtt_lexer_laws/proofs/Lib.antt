@@ -1,0 +1,10 @@
+pub mod Least
+pub mod Quotations
+pub mod Questions
+pub mod Standing
+pub mod Exact
+pub mod Reported
+pub mod Bytes
+pub mod Texts
+pub mod LongNames
+pub mod Worked

@@ -1,0 +1,11 @@
+pub mod Lists
+pub mod Splits
+pub mod Imports
+pub mod Own
+pub mod Sights
+pub mod Outcomes
+pub mod Parts
+pub mod Trees
+pub mod Items
+pub mod Heads
+pub mod Worked

@@ -1,0 +1,12 @@
+pub mod Chains
+pub mod Computed
+pub mod Items
+pub mod Kept
+pub mod Keeping
+pub mod Levels
+pub mod Outcomes
+pub mod Parsing
+pub mod Printing
+pub mod Resolving
+pub mod Tokens
+pub mod Words

@@ -1,0 +1,5 @@
+pub mod Examples
+pub mod FirstFault
+pub mod Places
+pub mod Printed
+pub mod Standing
