@@ -1,0 +1,6 @@
+pub mod NormalForms
+pub mod Heads
+pub mod Forms
+pub mod Alike
+pub mod Judgement
+pub mod Examples

@@ -1,0 +1,5 @@
+pub mod NormalForms
+pub mod Conclusions
+pub mod Alike
+pub mod Examples
+pub mod Laws
