@@ -18,6 +18,7 @@ pub mod Bodies
 pub mod Indexed
 pub mod Taken
 pub mod Larger
+pub mod Named
 pub mod Growing
 pub mod Accepted
 pub mod Erased

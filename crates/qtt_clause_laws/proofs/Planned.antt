@@ -27,7 +27,7 @@ use Rattle.qtt_clause_laws.proofs.Asked.{head-asked, needed, found-is}
 use Rattle.qtt_clause_laws.proofs.Answering.{within-ends}
 use Rattle.qtt_clause_laws.proofs.Grown.{SidesOf, grow-made}
 
-all-wide : {E : Env} (k : ℕ) (cs : List Clause) (u : Unit {0}) → Ends E (so_wide k cs) (Ending.ok u) → AllWide k cs
+pub all-wide : {E : Env} (k : ℕ) (cs : List Clause) (u : Unit {0}) → Ends E (so_wide k cs) (Ending.ok u) → AllWide k cs
 all-wide k [] u e = tt
 all-wide k (c ∷ cs) u e =
     let a = parts _ _ u e in
@@ -38,11 +38,11 @@ function-is : (h : Term) (F : Function) → as_function h ≡ Some F → h ≡ P
 function-is (Pi q A B) F e = ap (λ (F : Function). Pi F.mult F.domain F.codomain) (some-injective e)
 function-is _ F e = absurd (cc e)
 
-record OpenedAs (E : Env) (k : ℕ) (A : Term) (O : Opened) : Type 0 where
-  count : length O.binders ≡ k
-  conv : Conv E A (pis O.binders O.goal)
+pub record OpenedAs (E : Env) (k : ℕ) (A : Term) (O : Opened) : Type 0 where
+  pub count : length O.binders ≡ k
+  pub conv : Conv E A (pis O.binders O.goal)
 
-opened-as : {E : Env} (s : Span) (k : ℕ) (Γ : Ctx) (A : Term) (O : Opened) → Ends E (opened s k Γ A) (Ending.ok O) →
+pub opened-as : {E : Env} (s : Span) (k : ℕ) (Γ : Ctx) (A : Term) (O : Opened) → Ends E (opened s k Γ A) (Ending.ok O) →
     OpenedAs E k A O
 opened-as {E} s zero Γ A O e = subst (OpenedAs E zero A) (ended _ O e) (record { count = refl; conv = Conv.same })
 opened-as {E} s (suc k) Γ A O e =

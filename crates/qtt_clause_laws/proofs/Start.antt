@@ -19,7 +19,7 @@ pub length-ext : (Γ : Ctx) (Θ : Tele) → length (ext Γ Θ) ≡ length Γ + l
 length-ext Γ [] = omega arith
 length-ext Γ (b ∷ Θ) = let e : length (ext (b ∷ Γ) Θ) ≡ suc (length Γ) + length Θ = length-ext (b ∷ Γ) Θ in omega arith
 
-start-columns : (K : Entries) (Γ : Ctx) (ps : List Shape) (n : ℕ) → length ps ≡ n →
+pub start-columns : (K : Entries) (Γ : Ctx) (ps : List Shape) (n : ℕ) → length ps ≡ n →
     Reads K (shapes ps) (above 0 n) (start_columns Γ ps (oldest_first n))
 start-columns K Γ [] zero e = Reads.none
 start-columns K Γ [] (suc n) e = absurd (cc e)

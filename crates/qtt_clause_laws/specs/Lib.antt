@@ -2,5 +2,6 @@ pub mod OneSplit
 pub mod Planned
 pub mod Erased
 pub mod Larger
+pub mod Named
 pub mod Accepted
 pub mod Worked

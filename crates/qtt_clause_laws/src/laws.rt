@@ -7,6 +7,7 @@ ghost use Rattle.qtt_split.specs.Laws.{PlainClauseLaw, TypedClauseLaw, AcceptedI
 ghost use Rattle.qtt_clause_laws.specs.OneSplit.{OneSplit, OneDeletion};
 ghost use Rattle.qtt_clause_laws.specs.Planned.{PlansAreMade};
 ghost use Rattle.qtt_clause_laws.specs.Larger.{EnvironmentsAreLarger};
+ghost use Rattle.qtt_clause_laws.specs.Named.{NamedStay, ReachedAreNamed};
 ghost use Rattle.qtt_clause_laws.specs.Accepted.{AcceptedBodiesGoOn, Enough, UnsolvedValuesStay};
 ghost use Rattle.qtt_clause_laws.specs.Erased.{ErasesAlike};
 ghost use Rattle.qtt_clause_laws.specs.Worked.{AppendWorked, SolvedWorked};
@@ -65,6 +66,18 @@ pub fn bodies_are_made()
 /// definitions and families are added whose constructors no pattern names.
 pub fn environments_are_larger()
     ensures { EnvironmentsAreLarger }
+{}
+
+/// Each clause of an accepted tree has a leaf, so that the names in its patterns stand for
+/// constructors.
+pub fn reached_are_named()
+    ensures { ReachedAreNamed }
+{}
+
+/// For clauses whose patterns name constructors an environment is larger wherever what is there
+/// stays, and ids of constructors stand for the same ones.
+pub fn named_stay()
+    ensures { NamedStay }
 {}
 
 /// A well-formed environment has what the next law asks of environments.

@@ -9,6 +9,8 @@
 //! (`laws::accepted_bodies_go_on`). A place that an equation solved holds its solution, which is
 //! convertible to the value that stands there. This is so in the environment in which the body was
 //! accepted, and in each larger one, as that of a whole program (`laws::environments_are_larger`).
+//! The patterns of an accepted group name constructors (`laws::reached_are_named`), so an
+//! environment is larger wherever these and all else stay (`laws::named_stay`).
 //!
 //! Each field of the values, one at 0 too, is to be a value. The environment is to have Prim,
 //! closed bodies, and in each constructor's result a term for each index, as each well-formed one
