@@ -11,13 +11,14 @@ use Rattle.qtt_module.specs.Declarations.{Declaration}
 use Rattle.qtt_module.specs.Sides.{Given}
 use Rattle.qtt_module.specs.Module.{Home, item_of, Signed, Stage, start, after_family, after_signature, after_group, with_clauses}
 use Rattle.qtt_module.specs.ModuleRules.{Declares, DeclaresAll}
+use Rattle.qtt_accepted.specs.Members.{Among}
 use Rattle.qtt_accepted.specs.Stages.{FreshFrom}
 use Rattle.qtt_accepted.proofs.Added.{Added, apart, no-entry}
 use Rattle.qtt_accepted.proofs.Adopted.{Once, other-module, other-first, once-none, once-inserted, once-changed, absent-unchanged, others-unchanged}
 use Rattle.qtt_accepted.proofs.Beside.{Adds, Lacks}
 use Rattle.qtt_accepted.proofs.Families.{family-entry}
 use Rattle.qtt_accepted.proofs.Signed.{definition-added}
-use Rattle.qtt_accepted.proofs.Stages.{Among, at-end, in-image, hit, other-item}
+use Rattle.qtt_accepted.proofs.Stages.{at-end, in-image, hit, other-item}
 use Rattle.qtt_accepted.proofs.Turns.{family-id, signature-id, named_so}
 
 abbrev of_family : FamilyEntry → Family
@@ -30,7 +31,7 @@ of_definition D = D.definition
 pub its-item : (M : Home) (n : ℕ) → is_of (Some M.id) (item_of M n) ≡ true
 its-item M n = eq-eqb M.id.0 M.id.0 refl
 
-is-item : (M : Home) (i : GlobalId) → is_of (Some M.id) i ≡ true → item_of M i.item ≡ i
+pub is-item : (M : Home) (i : GlobalId) → is_of (Some M.id) i ≡ true → item_of M i.item ≡ i
 is-item M i e =
     ap (λ (k : ℕ). record { «module» = record { 0 = k }; item = i.item }) (sym (eqb-true i.module.0 M.id.0 e))
 

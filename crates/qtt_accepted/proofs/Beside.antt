@@ -62,7 +62,7 @@ module _ (m : ModuleId) (S H : Env) where
       definition d A h true e = absurd (none≢some (sym (lacks.definitions d e) ∙ h))
       definition d A h false e = h
 
-  stands-beside : (G : Env) → Adds m G S → StandsIn G H → StandsIn S (beside m S H)
+  pub stands-beside : (G : Env) → Adds m G S → StandsIn G H → StandsIn S (beside m S H)
   stands-beside G adds s = record {
     families = λ f F h. family f F h (is_of (Some m) f) refl;
     definitions = λ d A h. definition d A h (is_of (Some m) d) refl;

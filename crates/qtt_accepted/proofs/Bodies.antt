@@ -62,7 +62,7 @@ body-typed D b w n x =
     (alike-so D (at D.group.first Test.body) r.mid.type D.type r.after)
 
 -- ---- the environment with the body
-abbrev given : Term → Definition → Definition
+abbrev pub given : Term → Definition → Definition
 given b A = record { mult = A.mult; type = A.type; body = Some b }
 
 entry-id : (x : GlobalId) (ys : List DefinitionEntry) (y : DefinitionEntry) → with_id definition_id x ys ≡ Some y →
@@ -151,11 +151,11 @@ module _ (G : Entries) (d : GlobalId) (b : Term) (A : Definition) (there : (env 
   stay : FamiliesStay (env G) (env (with_body d b G))
   stay f t = refl
 
-  data Changed (x : GlobalId) (C : Definition) : Type 0 where
+  pub data Changed (x : GlobalId) (C : Definition) : Type 0 where
     as_before : (env G).definition x ≡ Some C → Changed x C
     with_it : given b A ≡ C → Changed x C
 
-  seen : (x : GlobalId) (C : Definition) → (env (with_body d b G)).definition x ≡ Some C → Changed x C
+  pub seen : (x : GlobalId) (C : Definition) → (env (with_body d b G)).definition x ≡ Some C → Changed x C
   seen x C h = by_entry (with_id definition_id x G.definitions) refl
       (sym (ap (option_map (λ (y : DefinitionEntry). y.definition)) (lookup x)) ∙ h)
     where

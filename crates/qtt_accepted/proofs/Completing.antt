@@ -22,12 +22,13 @@ use Rattle.qtt_module.specs.Declarations.{Declaration, declarations}
 use Rattle.qtt_module.specs.Sides.{Side, Given, cores, holes_from, side_or_hole, end_group, group_of}
 use Rattle.qtt_module.specs.Module.{Home, item_of, Signed, Stage, start, after_family, after_signature, after_group, with_clauses, signed_as, defined, group_for, declare, all_have_clauses, or_bare, first_bare, InTurn}
 use Rattle.qtt_module.proofs.Declared.{signature_so}
+use Rattle.qtt_accepted.specs.Members.{Among}
 use Rattle.qtt_accepted.specs.Stages.{signature_names, is_among, all_differ, group_names, Marked}
 use Rattle.qtt_accepted.specs.Laws.{ModulesKeepForm}
 use Rattle.qtt_accepted.proofs.Added.{Comes, seen-id}
 use Rattle.qtt_accepted.proofs.Signed.{definition-added}
 use Rattle.qtt_accepted.proofs.Bodies.{apart-body, its-body}
-use Rattle.qtt_accepted.proofs.Stages.{Among, at-end, Image, in-image, hit, true≢false, same-names, names-same, of-either, differ-so, others-same, Formed, SignedFormed, no-body}
+use Rattle.qtt_accepted.proofs.Stages.{at-end, Image, in-image, hit, true≢false, same-names, names-same, of-either, differ-so, others-same, Formed, SignedFormed, no-body}
 use Rattle.qtt_accepted.proofs.Groups.{groups_make_no_tape_holds}
 use Rattle.qtt_accepted.proofs.Turns.{named_so, signature-id, nothing-more, behind-marks, behind-names, step, starts, module_formed}
 

@@ -31,3 +31,9 @@ pub mod Beside
 pub mod Adding
 pub mod Texts
 pub mod Once
+pub mod Cored
+pub mod Apart
+pub mod Followed
+pub mod Joined
+pub mod Refusals
+pub mod Promised

@@ -1,6 +1,6 @@
 -- Over a well-formed environment a text declares one thing alone, and one that is refused for another cause than a
 -- budget declares nothing: its items have one ending.
-use Rattle.std.proofs.Common.{◌≡◌, ◌∙◌, ℕ, true, List, Ok, Err, sym, ap, subst}
+use Rattle.std.proofs.Common.{◌≡◌, inr, inl, ◌⊎◌, ◌∙◌, ℕ, true, List, Ok, Err, sym, ap, subst}
 use Rattle.qtt_base.specs.declared.place.ModuleId.{ModuleId}
 use Rattle.qtt_syntax.specs.Tree.{Module}
 use Rattle.qtt_names.specs.Exports.{Exports}
@@ -12,6 +12,7 @@ use Rattle.qtt_term.specs.Entries.{Entries, env}
 use Rattle.qtt_confluence.proofs.Endings.{one-ending}
 use Rattle.qtt_preserve.proofs.Facts.{bodies_closed_holds}
 use Rattle.qtt_rules.specs.Refusal.{Place, Refusal}
+use Rattle.qtt_diag.specs.Kept.{Detail}
 use Rattle.qtt_module.specs.Declarations.{Declaration, declarations}
 use Rattle.qtt_module.specs.Module.{Home, Stage, start, declare, all_have_clauses, Checked, checked, Accepts, InTurn}
 use Rattle.qtt_module.specs.Prepared.{prepared}
@@ -104,8 +105,31 @@ module _ (id : ModuleId) (asked : List ℕ) (imports : List Exports) (G : Entrie
       absurd (cc same)
   none-so n r A (RefusesText.question e s) other d = absurd (other IsSpent.spent)
 
+-- ---- refusals
+-- it keeps a question that took more than its budget, or it does not
+pub spent-or-not : (d : Detail) → IsSpent d ⊎ (IsSpent d → ⊥)
+spent-or-not (Detail.budget_spent n q) = inl IsSpent.spent
+spent-or-not Detail.not_utf8 = inr (λ s. elim s [ ])
+spent-or-not (Detail.bad_character c) = inr (λ s. elim s [ ])
+spent-or-not Detail.open_text = inr (λ s. elim s [ ])
+spent-or-not Detail.open_comment = inr (λ s. elim s [ ])
+spent-or-not Detail.number_too_wide = inr (λ s. elim s [ ])
+spent-or-not Detail.name_too_long = inr (λ s. elim s [ ])
+spent-or-not Detail.bad_indent = inr (λ s. elim s [ ])
+spent-or-not (Detail.unexpected w) = inr (λ s. elim s [ ])
+spent-or-not Detail.too_deep = inr (λ s. elim s [ ])
+spent-or-not (Detail.unbound n) = inr (λ s. elim s [ ])
+spent-or-not (Detail.ambiguous n) = inr (λ s. elim s [ ])
+spent-or-not (Detail.duplicate n) = inr (λ s. elim s [ ])
+spent-or-not (Detail.premise c) = inr (λ s. elim s [ ])
+spent-or-not (Detail.wrong_module_name n m) = inr (λ s. elim s [ ])
+spent-or-not (Detail.cycle ms) = inr (λ s. elim s [ ])
+spent-or-not (Detail.unsolved n) = inr (λ s. elim s [ ])
+spent-or-not (Detail.has_holes ns) = inr (λ s. elim s [ ])
+
 pub texts_declare_once_holds : TextsDeclareOnce
 texts_declare_once_holds = record {
+  decided = spent-or-not;
   one = λ id asked imports G m A B w fresh marked a b. one-so id asked imports G m w fresh marked A B a b;
   none = λ id n asked imports G m r A w fresh marked x other d.
       none-so id asked imports G m w fresh marked n r A x other d;

@@ -15,6 +15,7 @@ use Rattle.qtt_module.specs.Declarations.{Declaration}
 use Rattle.qtt_module.specs.Sides.{Given}
 use Rattle.qtt_holes.specs.Hole.{Hole}
 use Rattle.qtt_module.specs.Module.{Home, item_of, Signed, Stage, after_family, after_signature, after_group, with_clauses}
+use Rattle.qtt_accepted.specs.Members.{Among}
 use Rattle.qtt_accepted.specs.Stages.{FreshFrom, group_names, is_among, all_differ}
 use Rattle.qtt_accepted.proofs.Added.{Added, kept, apart, itself}
 use Rattle.qtt_accepted.proofs.Signed.{definition-added}
@@ -22,10 +23,6 @@ use Rattle.qtt_accepted.proofs.Families.{family-entry}
 use Rattle.qtt_accepted.proofs.Bodies.{grown, apart-body}
 
 -- ---- lists
-pub data Among {A : Type 0} (x : A) : List A → Type 0 where
-  here : {xs : List A} → Among x (x ∷ xs)
-  later : {y : A} {xs : List A} → Among x xs → Among x (y ∷ xs)
-
 pub at-end : {A : Type 0} (x z : A) (xs : List A) → Among x (xs ++ (z ∷ [])) → Among x xs ⊎ (x ≡ z)
 at-end x z [] Among.here = inr refl
 at-end x z [] (Among.later h) = elim h [ ]

@@ -15,7 +15,7 @@ use Rattle.qtt_term.specs.Environment.{WellFormed, Complete}
 use Rattle.qtt_term.specs.Entries.{Entries, env}
 use Rattle.qtt_term.proofs.Options.{none≢some}
 use Rattle.qtt_module.specs.Declarations.{declarations}
-use Rattle.qtt_module.specs.Module.{Home, item_of, start, Checked, checked, Accepts}
+use Rattle.qtt_module.specs.Module.{Home, item_of, start, Checked, Accepts}
 use Rattle.qtt_module.specs.Refused.{Answer, ◌>>=◌}
 use Rattle.qtt_module.specs.Prepared.{has_name, looked_up, imported, named, filled_in, prepared}
 use Rattle.qtt_module.specs.Text.{Accepted, items_in, home_of}
@@ -97,19 +97,19 @@ stands-itself E = record { families = λ f F h. h; definitions = λ d A h. h }
 module _ (id : ModuleId) (asked : List ℕ) (imports : List Exports) (G H : Entries) (m : Module) (A : Accepted)
     (d : DeclaresText id asked imports G m A) (s : StandsIn (env G) (env H))
     (fresh : FreshFrom (home_of id m) 0 H) where
-  accepts : Accepts (home_of id m) G (items_in d.filled.text) A.checked
+  pub accepts : Accepts (home_of id m) G (items_in d.filled.text) A.checked
   accepts = so_module (home_of id m) G (items_in d.filled.text) A.checked d.declares
 
-  fresh-first : FreshFrom (home_of id m) 0 G
+  pub fresh-first : FreshFrom (home_of id m) 0 G
   fresh-first = fresh-before (home_of id m) G H s fresh
 
-  adds : AddsItems (home_of id m) G accepts.stage
+  pub adds : AddsItems (home_of id m) G accepts.stage
   adds =
       adds-all (home_of id m) G
       (turn_so (home_of id m) (start G) (declarations (items_in d.filled.text)) accepts.stage accepts.ends)
       (starts-adding (home_of id m) G fresh-first)
 
-  adopted-is : env (adopted H A.checked.part) ≡ beside id (env accepts.stage.globals) (env H)
+  pub adopted-is : env (adopted H A.checked.part) ≡ beside id (env accepts.stage.globals) (env H)
   adopted-is =
       ap (λ (C : Checked). env (adopted H C.part)) (sym accepts.is_checked)
       ∙ adopted-beside id H accepts.stage.globals adds.families_once adds.definitions_once

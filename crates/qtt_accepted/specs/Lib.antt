@@ -3,3 +3,7 @@ pub mod Laws
 pub mod Scoped
 pub mod Stages
 pub mod Texts
+pub mod Members
+pub mod Clauses
+pub mod Refusals
+pub mod Calls

@@ -1,5 +1,5 @@
 -- What reading a text gives its declarations, and what an accepted text keeps once its part is adopted.
-use Rattle.std.specs.Prelude.{◌≡◌, ℕ, List, [], Some, Ok}
+use Rattle.std.specs.Prelude.{◌≡◌, ◌⊎◌, ℕ, List, [], Some, Ok}
 use Rattle.qtt_base.specs.declared.place.GlobalId.{GlobalId}
 use Rattle.qtt_base.specs.declared.place.ModuleId.{ModuleId}
 use Rattle.qtt_syntax.specs.Tree.{Module}
@@ -69,8 +69,10 @@ pub record TextsKeepFormBeside : Type 0 where
 pub data IsSpent : Detail → Type 0 where
   spent : {n : ℕ} {q : Question} → IsSpent (Detail.budget_spent n q)
 
--- a text declares one thing alone; and one that is refused for another cause than a budget declares nothing
+-- a text declares one thing alone; and one that is refused for another cause than a budget declares nothing, where a
+-- refusal is for a budget or not
 pub record TextsDeclareOnce : Type 0 where
+  pub decided : (d : Detail) → IsSpent d ⊎ (IsSpent d → ⊥)
   pub one : (id : ModuleId) (asked : List ℕ) (imports : List Exports) (G : Entries) (m : Module) (A B : Accepted) →
       WellFormed (env G) → FreshFrom (home_of id m) 0 G → Marked (declarations (items_in m)) →
       DeclaresText id asked imports G m A → DeclaresText id asked imports G m B → A ≡ B

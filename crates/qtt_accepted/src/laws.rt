@@ -1,6 +1,8 @@
 //! Laws of what elaboration accepts. Each function does nothing: its contract is the law.
 
 ghost use Rattle.qtt_accepted.specs.Laws.{BuildsAreFormed, GroupsMakeNoTape, ModulesKeepForm, ElaborationMakesNoTape, ElaborationStaysInScope, WellFormedIsTapeless, GoodFieldsHoldNoCase, SignaturesKeepForm, FamiliesKeepForm, BodiesKeepForm};
+ghost use Rattle.qtt_accepted.specs.Clauses.{ByClausesStay, ClausesAreFollowed, PrimIsApart, TextsGoByClauses};
+ghost use Rattle.qtt_accepted.specs.Refusals.{PremisesAreFalseSo};
 ghost use Rattle.qtt_accepted.specs.Texts.{TextsAreWellNamed, TextsDeclareOnce, TextsKeepForm, TextsKeepFormBeside};
 
 /// No Tape stands in what elaboration gives.
@@ -75,4 +77,33 @@ pub fn texts_keep_form_beside()
 /// declares nothing.
 pub fn texts_declare_once()
     ensures { TextsDeclareOnce }
+{}
+
+/// A definition that has the body of accepted clauses goes on as these say, in each well-formed
+/// environment that is larger than the one in which they were accepted.
+pub fn clauses_are_followed()
+    ensures { ClausesAreFollowed }
+{}
+
+/// It does so still where more stands.
+pub fn by_clauses_stay()
+    ensures { ByClausesStay }
+{}
+
+/// No two families of Prim have a constructor of one id, and each has those of its module.
+pub fn prim_is_apart()
+    ensures { PrimIsApart }
+{}
+
+/// Each body that comes with an accepted text is that of its clauses, once the text's part is
+/// adopted beside others.
+pub fn texts_go_by_clauses()
+    ensures { TextsGoByClauses }
+{}
+
+/// A premise for which a text is refused is false in the relation: what is asked for a head is
+/// convertible to none of the form that the rule wants, and terms that are told apart are not
+/// convertible.
+pub fn premises_are_false_so()
+    ensures { PremisesAreFalseSo }
 {}

@@ -23,8 +23,17 @@
 //! and strict positivity leaves no match of the family that is being declared
 //! (`laws::good_fields_hold_no_case`).
 //!
-//! Not shown here: completeness, that what has derivations is accepted. There are no wrong bodies
-//! to refuse, since no body says anything.
+//! Each body that comes with an accepted text is that of a group of its clauses, and its definition
+//! goes on as these say, also once more texts are adopted (`laws::texts_go_by_clauses`,
+//! `laws::by_clauses_stay`, `laws::clauses_are_followed`). A premise for which a text is refused is
+//! false with convertible terms in place of contractions (`laws::premises_are_false_so`).
+//!
+//! `check_module` is the judgement of a text with these promises as a clause: what it accepts keeps
+//! the environment well formed, and what a text declares it accepts, unless a question takes more
+//! than the budget.
 #![tactic(auto)]
 
+mod judging;
 pub mod laws;
+
+pub use judging::check_module;
