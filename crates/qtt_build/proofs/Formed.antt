@@ -20,13 +20,13 @@ use Rattle.qtt_build.specs.Laws.{HasNoHoles, BuildsKeepForm}
 use Rattle.qtt_build.specs.Parts.{OnlyBelow}
 use Rattle.qtt_build.proofs.Numbers.{prim-below, below-later, adopted-below, all-adopted-below, below-fresh}
 use Rattle.qtt_build.proofs.Declared.{declared-numbered, rank-numbered}
-use Rattle.qtt_build.proofs.Marked.{IsMarked, loaded-marked, at-marked}
+use Rattle.qtt_build.proofs.Marked.{IsMarked, loaded-marked, at-all}
 
 -- ---- what stands
 pub stands-itself : (E : Env) → StandsIn E E
 stands-itself E = record { families = λ f F h. h; definitions = λ d A h. h }
 
-stands-on : {C D E : Env} → StandsIn C D → StandsIn D E → StandsIn C E
+pub stands-on : {C D E : Env} → StandsIn C D → StandsIn D E → StandsIn C E
 stands-on s t = record {
   families = λ f F h. t.families f F (s.families f F h);
   definitions = λ d A h. t.definitions d A (s.definitions d A h);
@@ -47,6 +47,9 @@ order-front : {B C : Built} {ranks : List (List Module)} → DeclaresRanks B ran
     All HasNoHoles B.order
 order-front DeclaresRanks.built h = h
 order-front {B} (DeclaresRanks.next {As = As} r rs) h = of-front HasNoHoles B.order As (order-front rs h)
+
+abbrev pub AreMarked : List Module → Type 0
+AreMarked ms = All IsMarked ms
 
 module _ (keep : TextsKeepFormBeside) where
   -- ---- a rank
@@ -94,9 +97,6 @@ module _ (keep : TextsKeepFormBeside) where
       (omega (arith, e))
       (all-adopted-below (suc (length B.order)) B.globals As below (rank-numbered B (length B.order) ms As below r))
 
-  abbrev pub AreMarked : List Module → Type 0
-  AreMarked ms = All IsMarked ms
-
   ranks-formed : {B C : Built} {ranks : List (List Module)} → WellFormed (env B.globals) →
       OnlyBelow (suc (length B.order)) B.globals → All AreMarked ranks → DeclaresRanks B ranks C →
       WellFormed (env C.globals)
@@ -130,9 +130,9 @@ pub builds_keep_form_holds : TextsKeepFormBeside → BuildsKeepForm
 builds_keep_form_holds keep = record {
   formed = λ texts root B d.
       ranks-formed keep {B = nothing_yet} {C = B} {ranks = map (modules_at d.modules) d.levels} prim-formed
-      prim-below (at-marked d.modules d.levels (loaded-marked texts root d.modules d.loads)) d.declares;
+      prim-below (at-all IsMarked d.modules d.levels (loaded-marked texts root d.modules d.loads)) d.declares;
   complete = λ texts root B d none.
       ranks-complete keep {B = nothing_yet} {C = B} {ranks = map (modules_at d.modules) d.levels} prim-formed
-      prim-complete prim-below (at-marked d.modules d.levels (loaded-marked texts root d.modules d.loads)) d.declares
-      none;
+      prim-complete prim-below (at-all IsMarked d.modules d.levels (loaded-marked texts root d.modules d.loads))
+      d.declares none;
 }

@@ -15,3 +15,6 @@ mod Passing
 mod Crossing
 mod Stopping
 mod Mentioned
+mod Clauses
+mod Meaning
+mod Refusals

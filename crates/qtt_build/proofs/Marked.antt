@@ -246,31 +246,30 @@ loaded-marked texts root ms e =
     All-from_recursion IsMarked ms
     (subst AllMarked e (load-marked (read_in texts) (read-marked texts) root 1000 (root ∷ []) (root ∷ [])))
 
--- ---- and so each rank's
-got-marked : (ms : List Module) → AllByRecursion IsMarked ms → (k : ℕ) → IfSome (slice_get ms k) IsMarked
-got-marked [] all k = tt
-got-marked (m ∷ ms) all zero = all.0
-got-marked (m ∷ ms) all (suc k) = got-marked ms all.1 k
+-- ---- what holds of each module holds of each rank's
+module _ (P : Module → Type 0) where
+  got-all : (ms : List Module) → AllByRecursion P ms → (k : ℕ) → IfSome (slice_get ms k) P
+  got-all [] all k = tt
+  got-all (m ∷ ms) all zero = all.0
+  got-all (m ∷ ms) all (suc k) = got-all ms all.1 k
 
-more-marked : (o : Option Module) (ms : List Module) → IfSome o IsMarked → AllByRecursion IsMarked ms →
-    AllByRecursion IsMarked (cons_option o ms)
-more-marked None ms h all = all
-more-marked (Some m) ms h all = (h, all)
+  more-all : (o : Option Module) (ms : List Module) → IfSome o P → AllByRecursion P ms →
+      AllByRecursion P (cons_option o ms)
+  more-all None ms h all = all
+  more-all (Some m) ms h all = (h, all)
 
-places-marked : (ms : List Module) → AllByRecursion IsMarked ms → (places : List ℕ) →
-    AllByRecursion IsMarked (modules_at ms places)
-places-marked ms all [] = tt
-places-marked ms all (k ∷ places) =
-    more-marked (slice_get ms k) (modules_at ms places) (got-marked ms all k) (places-marked ms all places)
+  places-all : (ms : List Module) → AllByRecursion P ms → (places : List ℕ) →
+      AllByRecursion P (modules_at ms places)
+  places-all ms all [] = tt
+  places-all ms all (k ∷ places) =
+      more-all (slice_get ms k) (modules_at ms places) (got-all ms all k) (places-all ms all places)
 
-ranks-marked : (ms : List Module) → AllByRecursion IsMarked ms → (levels : List (List ℕ)) →
-    AllByRecursion (All IsMarked) (map (modules_at ms) levels)
-ranks-marked ms all [] = tt
-ranks-marked ms all (places ∷ more) =
-    (All-from_recursion IsMarked (modules_at ms places) (places-marked ms all places), ranks-marked ms all more)
+  ranks-all : (ms : List Module) → AllByRecursion P ms → (levels : List (List ℕ)) →
+      AllByRecursion (All P) (map (modules_at ms) levels)
+  ranks-all ms all [] = tt
+  ranks-all ms all (places ∷ more) =
+      (All-from_recursion P (modules_at ms places) (places-all ms all places), ranks-all ms all more)
 
-pub at-marked : (ms : List Module) (levels : List (List ℕ)) → All IsMarked ms →
-    All (All IsMarked) (map (modules_at ms) levels)
-at-marked ms levels all =
-    All-from_recursion (All IsMarked) (map (modules_at ms) levels)
-    (ranks-marked ms (recursion_from_All IsMarked ms all) levels)
+  pub at-all : (ms : List Module) (levels : List (List ℕ)) → All P ms → All (All P) (map (modules_at ms) levels)
+  at-all ms levels all =
+      All-from_recursion (All P) (map (modules_at ms) levels) (ranks-all ms (recursion_from_All P ms all) levels)

@@ -1,5 +1,5 @@
 -- The modules of a build declare one thing alone, and nothing where a build stops for another cause than a budget.
-use Rattle.std.proofs.Common.{◌≡◌, ◌∙◌, ℕ, suc, List, ◌∷◌, map, length, All, Result, Ok, Err, refl, sym, subst, arith}
+use Rattle.std.proofs.Common.{◌≡◌, ◌∙◌, ◌⊎◌, inl, inr, ℕ, suc, List, ◌∷◌, map, length, All, Result, Ok, Err, refl, sym, subst, arith}
 use Rattle.std.proofs.lemmas.List.Elements.{All-head, All-tail}
 use mathlib.Core.Path.{ap₂}
 use Rattle.qtt_syntax.specs.Tree.{Module}
@@ -7,6 +7,7 @@ use Rattle.qtt_graph.specs.Graph.{Name, header_of}
 use Rattle.qtt_graph.specs.Ranks.{ranks}
 use Rattle.qtt_term.specs.Environment.{WellFormed}
 use Rattle.qtt_term.specs.Entries.{env}
+use Rattle.qtt_diag.specs.Kept.{Detail}
 use Rattle.qtt_load.specs.Reading.{Texts, read_in}
 use Rattle.qtt_load.specs.Loading.{module_name, loaded}
 use Rattle.qtt_load.specs.Loading as loading
@@ -19,7 +20,7 @@ use Rattle.qtt_build.specs.Judged.{DeclaresRank, RefusesRank, DeclaresRanks, Ref
 use Rattle.qtt_build.specs.Laws.{StoppedByBudget, BuildsDeclareOnce}
 use Rattle.qtt_build.specs.Parts.{OnlyBelow}
 use Rattle.qtt_build.proofs.Numbers.{prim-below, below-later, below-fresh}
-use Rattle.qtt_build.proofs.Marked.{IsMarked, loaded-marked, at-marked}
+use Rattle.qtt_build.proofs.Marked.{IsMarked, loaded-marked, at-all}
 use Rattle.qtt_build.proofs.Formed.{stands-itself, prim-formed, rank-formed, behind-rank}
 
 module _ (once : TextsDeclareOnce) (keep : TextsKeepFormBeside) where
@@ -82,7 +83,7 @@ module _ (once : TextsDeclareOnce) (keep : TextsKeepFormBeside) where
   module _ (texts : Texts) (root : Name) where
     marked-ranks : (ms : List Module) (levels : List (List ℕ)) → loaded (read_in texts) root ≡ Ok ms →
         All AllAreMarked (map (modules_at ms) levels)
-    marked-ranks ms levels e = at-marked ms levels (loaded-marked texts root ms e)
+    marked-ranks ms levels e = at-all IsMarked ms levels (loaded-marked texts root ms e)
 
     same-modules : (ms ns : List Module) → loaded (read_in texts) root ≡ Ok ms → loaded (read_in texts) root ≡ Ok ns →
         ms ≡ ns
@@ -129,8 +130,22 @@ module _ (once : TextsDeclareOnce) (keep : TextsKeepFormBeside) where
         ranks-none n {B = nothing_yet} {C = B} r prim-formed prim-below (marked-ranks ms levels e) x other
         (Over.declares (over ms levels B e f d))
 
+-- ---- why a build stops, where modules declare something
+module _ (decided : (d : Detail) → IsSpent d ⊎ (IsSpent d → ⊥)) where
+  stopped-or-not : (s : Stop) → StoppedByBudget s ⊎ (StoppedByBudget s → ⊥)
+  stopped-or-not (Stop.absent a) = inr (λ h. h)
+  stopped-or-not (Stop.refused r) = decided r.kept.detail
+
+  spent-so : (s : Stop) → ((StoppedByBudget s → ⊥) → ⊥) → StoppedByBudget s
+  spent-so s h = by (stopped-or-not s)
+    where
+      by : StoppedByBudget s ⊎ (StoppedByBudget s → ⊥) → StoppedByBudget s
+      by (inl k) = k
+      by (inr k) = absurd (h k)
+
 pub builds_declare_once_holds : TextsDeclareOnce → TextsKeepFormBeside → BuildsDeclareOnce
 builds_declare_once_holds once keep = record {
   one = λ texts root B C. one-so once keep texts root B C;
   none = λ texts root n s B. none-so once keep texts root n s B;
+  spent = λ texts root n s B x d. spent-so once.decided s (λ other. none-so once keep texts root n s B x other d);
 }

@@ -5,7 +5,8 @@ use Rattle.qtt_base.specs.declared.place.ModuleId.{ModuleId}
 use Rattle.qtt_syntax.specs.Tree.{Module}
 use Rattle.qtt_syntax.specs.View.{module_of}
 use Rattle.qtt_graph.specs.Graph.{Name}
-use Rattle.qtt_term.specs.Entries.{entries}
+use Rattle.qtt_term.specs.Environment.{WellFormed}
+use Rattle.qtt_term.specs.Entries.{env, entries}
 use Rattle.qtt_load.specs.Reading.{Texts, read_in}
 use Rattle.qtt_load.specs.Loading.{module_name}
 use Rattle.qtt_load.specs.declared.errors.LoadError.{LoadError}
@@ -16,6 +17,7 @@ use Rattle.qtt_module.specs.declared.errors.ModuleError.TheVariants as judging
 use Rattle.qtt_module.specs.Refused.{refused_of, Answer}
 use Rattle.qtt_module.specs.Text.{Accepted, judged_text}
 use Rattle.qtt_module.specs.TextCalls.{accepted_of}
+use Rattle.qtt_accepted.specs.Texts.{IsSpent}
 use Rattle.qtt_build.specs.declared.building.Building.{Building}
 use Rattle.qtt_build.specs.declared.built.Built as code
 use Rattle.qtt_build.specs.declared.errors.BuildError.{BuildError}
@@ -23,6 +25,7 @@ use Rattle.qtt_build.specs.declared.errors.BuildError.TheVariants as error
 use Rattle.qtt_build.specs.declared.worker.Job.{Job}
 use Rattle.qtt_build.specs.Built.{Built, imports_for}
 use Rattle.qtt_build.specs.Build.{Stop, Outcome, build}
+use Rattle.qtt_build.specs.Judged.{DeclaresBuild, RefusesBuild}
 
 -- ---- values of the code
 abbrev pub accepted_list : Vec checked.Checked Global → List Accepted
@@ -96,6 +99,33 @@ IsBuild told root n (Err error.Memory) = Unit {0}
 abbrev pub IsJudged : Option Texts → Name → ℕ → Result code.Built ModuleError → Type 0
 IsJudged told root n (Ok b) = IsBuild told root n (Ok b)
 IsJudged told root n (Err e) = IsBuild told root n (Err (of_module e))
+
+-- in the relation, of some texts, or of those that the vault tells: the modules declare what is built, in a well-formed
+-- environment; or the reason why there is none
+abbrev pub Tells : Option Texts → (Texts → Type 0) → Type 0
+Tells told P = (texts : Texts) × IfSome told (λ f. f ≡ texts) × P texts
+
+abbrev pub IsMeant : Option Texts → Name → ℕ → Result code.Built BuildError → Type 0
+IsMeant told root n (Ok b) =
+    Tells told (λ texts. DeclaresBuild (read_in texts) root (built_of b)) × WellFormed (env (entries b.env))
+IsMeant told root n (Err (error.Refused r)) =
+    Tells told (λ texts. RefusesBuild (read_in texts) root n (Stop.refused (refused_of r)))
+IsMeant told root n (Err (error.Absent a)) = Tells told (λ texts. RefusesBuild (read_in texts) root n (Stop.absent a))
+IsMeant told root n (Err error.VaultFault) = Unit {0}
+IsMeant told root n (Err error.Memory) = Unit {0}
+
+-- over modules that declare B the answer is B, or the first question that takes more than the budget; of want of memory
+-- and of a fault of the vault nothing is said
+abbrev pub ComesTo : Built → Result code.Built BuildError → Type 0
+ComesTo B (Ok b) = built_of b ≡ B
+ComesTo B (Err (error.Refused r)) = IsSpent (refused_of r).kept.detail
+ComesTo B (Err (error.Absent a)) = ⊥
+ComesTo B (Err error.VaultFault) = Unit {0}
+ComesTo B (Err error.Memory) = Unit {0}
+
+abbrev pub IsComplete : Option Texts → Name → Result code.Built BuildError → Type 0
+IsComplete told root result =
+    IfSome told (λ texts. (B : Built) → DeclaresBuild (read_in texts) root B → ComesTo B result)
 
 -- it is said that a module is not there
 abbrev pub IsAbsent : {X : Type 0} → Result X BuildError → Type 0

@@ -6,10 +6,11 @@ ghost use Rattle.qtt_build.specs.Answer.{answer_to, building_of, task_of};
 
 use crate::building::Building;
 use crate::imports::imports_for;
+use qtt_accepted::check_module;
 use qtt_base::ModuleId;
 use qtt_envconv::ByEnv;
 use qtt_jobs::Work;
-use qtt_module::{Checked, ModuleError, check_module};
+use qtt_module::{Checked, ModuleError};
 use qtt_syntax::ModuleText;
 use std::alloc::Global;
 
