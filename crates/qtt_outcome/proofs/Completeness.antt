@@ -7,7 +7,6 @@ use Rattle.qtt_graph.specs.Graph.{Name}
 use Rattle.qtt_term.specs.Entries.{Entries}
 use Rattle.qtt_lower.specs.declared.program.LowerError.{LowerError}
 use Rattle.qtt_lower.specs.Compiled.{excess_of}
-use Rattle.qtt_diag.specs.Kept.{Detail}
 use Rattle.qtt_holes.specs.Hole.{Hole}
 use Rattle.qtt_words.specs.Asked.{Asked}
 use Rattle.qtt_load.specs.Reading.{Texts}
@@ -17,35 +16,15 @@ use Rattle.qtt_module.specs.Text.{Accepted}
 use Rattle.qtt_module.specs.TextCalls.{RefusesMain}
 use Rattle.qtt_accepted.specs.Texts.{IsSpent}
 use Rattle.qtt_build.specs.Built.{Built}
-use Rattle.qtt_build.specs.Laws.{BuildsAreJudged, BuildsDeclareOnce, BuildsKeepForm, HasNoHoles, RootsAreBuilt}
+use Rattle.qtt_build.specs.Build as builds
+use Rattle.qtt_build.specs.Laws.{BuildLaws, HasNoHoles}
 use Rattle.qtt_outcome.specs.Stop.{Stop, Answer, holes_of, none_of, no_holes, module_named, program_of, within, code_of}
-use Rattle.qtt_outcome.specs.Outcome.{Outcome, root_of, outcome_of, put, worked}
+use Rattle.qtt_outcome.specs.Outcome.{Outcome, texts_for, root_of, outcome_of, put, worked}
 use Rattle.qtt_outcome.specs.Headline.{came, Declares, HasDerivations, IsGoing, Reason, IsRefused}
 use Rattle.qtt_outcome.specs.Completeness.{HasMain, IsReady, GoesOn, IsOverBudget, DerivedGoesOn}
 use Rattle.qtt_outcome.proofs.Headline.{ByBuilds, stopped-is-not-going, one_of_three_holds, refused_for_reason_holds, absent_is_told_holds, has, worked-ok}
 
 -- ---- refusals
--- it keeps a question that took more than its budget, or it does not
-spent-or-not : (d : Detail) → IsSpent d ⊎ (IsSpent d → ⊥)
-spent-or-not (Detail.budget_spent n q) = inl IsSpent.spent
-spent-or-not Detail.not_utf8 = inr (λ s. elim s [ ])
-spent-or-not (Detail.bad_character c) = inr (λ s. elim s [ ])
-spent-or-not Detail.open_text = inr (λ s. elim s [ ])
-spent-or-not Detail.open_comment = inr (λ s. elim s [ ])
-spent-or-not Detail.number_too_wide = inr (λ s. elim s [ ])
-spent-or-not Detail.name_too_long = inr (λ s. elim s [ ])
-spent-or-not Detail.bad_indent = inr (λ s. elim s [ ])
-spent-or-not (Detail.unexpected w) = inr (λ s. elim s [ ])
-spent-or-not Detail.too_deep = inr (λ s. elim s [ ])
-spent-or-not (Detail.unbound n) = inr (λ s. elim s [ ])
-spent-or-not (Detail.ambiguous n) = inr (λ s. elim s [ ])
-spent-or-not (Detail.duplicate n) = inr (λ s. elim s [ ])
-spent-or-not (Detail.premise c) = inr (λ s. elim s [ ])
-spent-or-not (Detail.wrong_module_name n m) = inr (λ s. elim s [ ])
-spent-or-not (Detail.cycle ms) = inr (λ s. elim s [ ])
-spent-or-not (Detail.unsolved n) = inr (λ s. elim s [ ])
-spent-or-not (Detail.has_holes ns) = inr (λ s. elim s [ ])
-
 -- where there is a main, its test is refused for a budget alone
 main-spent : (n : ℕ) (G : Entries) (A : Accepted) (x : Refused) (d : GlobalId) → IsMain G A.checked.main d →
     RefusesMain n G A x → IsSpent x.kept.detail
@@ -77,8 +56,8 @@ code-not-refused root B x h e =
     subst (λ (o : Option LowerError). within root (program_of B.globals) o ≡ Err (Stop.refused x)) h e in cc g)
 
 -- ---- a request
-module _ (judged : BuildsAreJudged) (keeps : BuildsKeepForm) (roots : RootsAreBuilt) (once : BuildsDeclareOnce)
-    (texts : Texts) (input : List ℕ) (r : Asked) (B : Built) (declares : Declares texts r B) (ready : IsReady r B) where
+module _ (laws : BuildLaws) (texts : Texts) (input : List ℕ) (r : Asked) (B : Built)
+    (declares : Declares texts r B) (ready : IsReady r B) where
   ready-for : (C : Built) → HasDerivations texts r C → IsReady r C
   ready-for C h = subst (IsReady r) (h.alone B declares) ready
 
@@ -91,11 +70,8 @@ module _ (judged : BuildsAreJudged) (keeps : BuildsKeepForm) (roots : RootsAreBu
       (subst (λ (A : Accepted). IsMain C.globals A.checked.main m.main) same m.is_main) f
 
   spent-so : (x : Refused) → Reason texts r x → IsSpent x.kept.detail
-  spent-so x (Reason.no_build f none) = by (spent-or-not x.kept.detail)
-    where
-      by : IsSpent x.kept.detail ⊎ (IsSpent x.kept.detail → ⊥) → IsSpent x.kept.detail
-      by (inl s) = s
-      by (inr other) = absurd (none other B declares)
+  spent-so x (Reason.no_build f fails none) =
+      laws.once.spent (texts_for texts r.work) (root_of r.work) r.budget (builds.Stop.refused x) B f declares
   spent-so x (Reason.hole {B = C} w h e) = absurd (no-hole-refused C x ((ready-for C h).no_hole w) e)
   spent-so x (Reason.wrong_main {B = C} {A = A} w h e f) = right-main C A x ((ready-for C h).main w) e f
   spent-so x (Reason.too_large {B = C} w h e) =
@@ -107,8 +83,8 @@ module _ (judged : BuildsAreJudged) (keeps : BuildsKeepForm) (roots : RootsAreBu
   -- what the request comes to is put over this build
   comes-so : (o : Outcome) → worked texts input r ≡ Ok o → worked texts input r ≡ put input r B r.work
   comes-so o e =
-      let g = worked-ok judged keeps roots once texts input r o e in
-      let h = has judged keeps roots once texts input r g.build_is g.built in
+      let g = worked-ok laws texts input r o e in
+      let h = has laws texts input r g.build_is g.built in
       e ∙ sym (subst (λ (C : Built). put input r C r.work ≡ Ok o) (sym (h.alone B declares)) g.put_is)
 
   going-so : IsGoing (came texts input r).status → GoesOn texts input r B
@@ -120,14 +96,14 @@ module _ (judged : BuildsAreJudged) (keeps : BuildsKeepForm) (roots : RootsAreBu
       by_answer (Err s) e i = absurd (stopped-is-not-going s i)
 
   goes-on-so : GoesOn texts input r B ⊎ IsOverBudget texts r (came texts input r)
-  goes-on-so = by_status (one_of_three_holds judged keeps roots once texts input r)
+  goes-on-so = by_status (one_of_three_holds laws texts input r)
     where
       by_status : IsGoing (came texts input r).status ⊎ ((came texts input r).status ≡ 1) ⊎
           ((came texts input r).status ≡ 66) → GoesOn texts input r B ⊎ IsOverBudget texts r (came texts input r)
       by_status (inl i) = inl (going-so i)
-      by_status (inr (inl e)) = inr (over-so (refused_for_reason_holds judged keeps roots once texts input r e))
-      by_status (inr (inr e)) = absurd ((absent_is_told_holds judged keeps roots once texts input r e).none B declares)
+      by_status (inr (inl e)) = inr (over-so (refused_for_reason_holds laws texts input r e))
+      by_status (inr (inr e)) = absurd ((absent_is_told_holds laws texts input r e).none B declares)
 
 pub derived_goes_on_holds : ByBuilds DerivedGoesOn
-derived_goes_on_holds judged keeps roots once texts input r B declares ready =
-    goes-on-so judged keeps roots once texts input r B declares ready
+derived_goes_on_holds laws texts input r B declares ready =
+    goes-on-so laws texts input r B declares ready

@@ -28,8 +28,8 @@ not-loaded read root n a s (RefusesBuild.ring {ms = ms} {way = way} e f) h =
 not-loaded read root n a s (RefusesBuild.judged e f x) h = absurd (cc h)
 
 pub generated_lack_none_holds : ByBuilds (GeneratedAreThere → GeneratedLackNone)
-generated_lack_none_holds judged keeps roots once there texts input r n w least most e =
-    let lacks = absent_is_told_holds judged keeps roots once texts input r e in
+generated_lack_none_holds laws there texts input r n w least most e =
+    let lacks = absent_is_told_holds laws texts input r e in
     let of_work : RefusesBuild (read_in (texts_for texts (Work.gen n))) (root_of (Work.gen n)) r.budget
     (Stop.absent lacks.name) =
     subst (λ (w : Work). RefusesBuild (read_in (texts_for texts w)) (root_of w) r.budget (Stop.absent lacks.name)) w

@@ -37,7 +37,7 @@ use Rattle.qtt_build.specs.Built.{Built, is_named}
 use Rattle.qtt_build.specs.Build.{build}
 use Rattle.qtt_build.specs.Build as builds
 use Rattle.qtt_build.specs.Judged.{RefusesBuild}
-use Rattle.qtt_build.specs.Laws.{BuildsAreJudged, BuildsDeclareOnce, BuildsKeepForm, HasNoHoles, RootsAreBuilt}
+use Rattle.qtt_build.specs.Laws.{BuildLaws, HasNoHoles}
 use Rattle.qtt_outcome.specs.Stop.{Stop, Answer, ◌>>=◌, of_build, of_judged, holes_of, all_holes, hole_name, none_of, no_holes, module_named, main_in, main_of, program_of, within, code_of, Runnable, runnable}
 use Rattle.qtt_outcome.specs.Outcome.{Outcome, puts, stopped, outcome_of, check_text, core_text, verdict_status, run_outcome, run_of, counted_outcome, texts_for, root_of, built_for, put, worked}
 use Rattle.qtt_outcome.specs.Headline.{came, HasDerivations, IsGoing, AcceptedIsDerived, wants_no_hole, wants_main, Reason, IsRefused, RefusedForReason, IsAbsent, AbsentIsTold, OneOfThree, IsOver, IsRun, RunsAreEvaluations, MainsMayRun, JobsChangeNothing}
@@ -291,25 +291,27 @@ runnable-only n root B i =
     (code-only root (program_of B.globals) (excess_of (program_of B.globals))) (λ P. never-stops _))
 
 -- ---- a request
-module _ (judged : BuildsAreJudged) (keeps : BuildsKeepForm) (roots : RootsAreBuilt) (once : BuildsDeclareOnce)
-    (texts : Texts) (input : List ℕ) (r : Asked) where
+module _ (laws : BuildLaws) (texts : Texts) (input : List ℕ) (r : Asked) where
   pub has : (B : Built) → built_for texts r ≡ Ok B → HasDerivations texts r B
   has B e =
       let b = built-ok (build (read_in (texts_for texts r.work)) (root_of r.work) r.budget) B e in
-      let d = judged.built (read_in (texts_for texts r.work)) (root_of r.work) r.budget B b in
+      let d = laws.judged.built (read_in (texts_for texts r.work)) (root_of r.work) r.budget B b in
       record {
         declares = d;
-        formed = keeps.formed (texts_for texts r.work) (root_of r.work) B d;
-        alone = λ C e. once.one (texts_for texts r.work) (root_of r.work) C B e d;
+        formed = laws.forms.formed (texts_for texts r.work) (root_of r.work) B d;
+        alone = λ C e. laws.once.one (texts_for texts r.work) (root_of r.work) C B e d;
+        clauses = laws.clauses (texts_for texts r.work) (root_of r.work) B d;
       }
 
   not-built : (x : Refused) → built_for texts r ≡ Err (Stop.refused x) → Reason texts r x
   not-built x e =
       let f : RefusesBuild (read_in (texts_for texts r.work)) (root_of r.work) r.budget (builds.Stop.refused x) =
-      judged.stopped (read_in (texts_for texts r.work)) (root_of r.work) r.budget (builds.Stop.refused x)
+      laws.judged.stopped (read_in (texts_for texts r.work)) (root_of r.work) r.budget (builds.Stop.refused x)
       (built-refused (build (read_in (texts_for texts r.work)) (root_of r.work) r.budget) x e) in
       Reason.no_build f
-      (λ other B d. once.none (texts_for texts r.work) (root_of r.work) r.budget (builds.Stop.refused x) B f other d)
+      (laws.refusals (texts_for texts r.work) (root_of r.work) r.budget (builds.Stop.refused x) f)
+      (λ other B d.
+      laws.once.none (texts_for texts r.work) (root_of r.work) r.budget (builds.Stop.refused x) B f other d)
 
   module _ (B : Built) (h : HasDerivations texts r B) where
     -- a refusal of what is to be run
@@ -447,7 +449,7 @@ module _ (judged : BuildsAreJudged) (keeps : BuildsKeepForm) (roots : RootsAreBu
   put-stops : (B : Built) → built_for texts r ≡ Ok B → OnlyRefuses (put input r B r.work)
   put-stops B e =
       put-only B (has B e) r.work
-      (roots (texts_for texts r.work) (root_of r.work) r.budget B
+      (laws.roots (texts_for texts r.work) (root_of r.work) r.budget B
       (built-ok (build (read_in (texts_for texts r.work)) (root_of r.work) r.budget) B e))
 
   never-for-usage : worked texts input r ≡ Err Stop.usage → ⊥
@@ -469,7 +471,7 @@ module _ (judged : BuildsAreJudged) (keeps : BuildsKeepForm) (roots : RootsAreBu
           Later (built_for texts r) behind_build (Stop.absent a) →
           RefusesBuild (read_in (texts_for texts r.work)) (root_of r.work) r.budget (builds.Stop.absent a)
       by_build (inl e) =
-          judged.stopped (read_in (texts_for texts r.work)) (root_of r.work) r.budget (builds.Stop.absent a)
+          laws.judged.stopped (read_in (texts_for texts r.work)) (root_of r.work) r.budget (builds.Stop.absent a)
           (built-absent (build (read_in (texts_for texts r.work)) (root_of r.work) r.budget) a e)
       by_build (inr l) =
           let s = put-stops l.value l.first (Stop.absent a) l.later in
@@ -482,7 +484,7 @@ module _ (judged : BuildsAreJudged) (keeps : BuildsKeepForm) (roots : RootsAreBu
     name = a;
     lacking = l;
     none = λ B d.
-        once.none (texts_for texts r.work) (root_of r.work) r.budget (builds.Stop.absent a) B l (λ f. f) d;
+        laws.once.none (texts_for texts r.work) (root_of r.work) r.budget (builds.Stop.absent a) B l (λ f. f) d;
     told = refl;
     silent = refl;
   }
@@ -540,7 +542,7 @@ module _ (judged : BuildsAreJudged) (keeps : BuildsKeepForm) (roots : RootsAreBu
       let x = both (runnable r.budget root B) (shown B h k) o u.later in
       let shows : k x.value ≡ o = (let f : shown B h k x.value ≡ Ok o = x.later in cc f) in
       let whole : Complete (env B.globals) =
-      keeps.complete (texts_for texts r.work) (root_of r.work) B h.declares (no-hole B u.value u.first) in
+      laws.forms.complete (texts_for texts r.work) (root_of r.work) B h.declares (no-hole B u.value u.first) in
       let main : IsMain (env B.globals) x.value.main =
       main-is r.budget root B x.value.main h.formed (runnable-ok r.budget root B x.value x.first) in
       let t = tapes_closed_once_holds (env B.globals) h.formed whole x.value.main main r.steps input in
@@ -577,31 +579,31 @@ module _ (judged : BuildsAreJudged) (keeps : BuildsKeepForm) (roots : RootsAreBu
 
 -- ---- the laws, from those of builds
 abbrev pub ByBuilds : Type 0 → Type 0
-ByBuilds law = BuildsAreJudged → BuildsKeepForm → RootsAreBuilt → BuildsDeclareOnce → law
+ByBuilds law = BuildLaws → law
 
 pub accepted_is_derived_holds : ByBuilds AcceptedIsDerived
-accepted_is_derived_holds judged keeps roots once texts input r = accepted-so judged keeps roots once texts input r
+accepted_is_derived_holds laws texts input r = accepted-so laws texts input r
 
 pub refused_for_reason_holds : ByBuilds RefusedForReason
-refused_for_reason_holds judged keeps roots once texts input r = refused-so judged keeps roots once texts input r
+refused_for_reason_holds laws texts input r = refused-so laws texts input r
 
 pub absent_is_told_holds : ByBuilds AbsentIsTold
-absent_is_told_holds judged keeps roots once texts input r = absent-so judged keeps roots once texts input r
+absent_is_told_holds laws texts input r = absent-so laws texts input r
 
 pub one_of_three_holds : ByBuilds OneOfThree
-one_of_three_holds judged keeps roots once texts input r = three-so judged keeps roots once texts input r
+one_of_three_holds laws texts input r = three-so laws texts input r
 
 pub runs_are_evaluations_holds : ByBuilds RunsAreEvaluations
-runs_are_evaluations_holds judged keeps roots once texts input r root w =
-    runs-so judged keeps roots once texts input r root w
+runs_are_evaluations_holds laws texts input r root w =
+    runs-so laws texts input r root w
 
-pub mains_may_run_holds : BuildsAreJudged → BuildsKeepForm → MainsMayRun
-mains_may_run_holds judged keeps texts root n B u main built none is =
-    let d = judged.built (read_in texts) root n B built in
-    let formed = keeps.formed texts root B d in
+pub mains_may_run_holds : ByBuilds MainsMayRun
+mains_may_run_holds laws texts root n B u main built none is =
+    let d = laws.judged.built (read_in texts) root n B built in
+    let formed = laws.forms.formed texts root B d in
     record {
       formed = formed;
-      complete = keeps.complete texts root B d (no-hole B u none);
+      complete = laws.forms.complete texts root B d (no-hole B u none);
       is_main = main-is n root B main formed (main-ok n B root main is);
     }
 

@@ -2,6 +2,8 @@
 use Rattle.std.specs.Prelude.{◌≡◌, ◌⊎◌, ◌≤◌, ℕ, Bool, true, false, List, [], Some, Ok, Err}
 use Rattle.qtt_base.specs.declared.place.GlobalId.{GlobalId}
 use Rattle.qtt_graph.specs.Graph.{Name}
+use Rattle.qtt_term.specs.Term.{Term}
+use Rattle.qtt_term.specs.Signature.{definition_at}
 use Rattle.qtt_term.specs.FullRun.{Verdict, full}
 use Rattle.qtt_term.specs.TapeDiscipline.{Disciplined, ClosedOnce}
 use Rattle.qtt_term.specs.Environment.{WellFormed, Complete, IsMain}
@@ -15,7 +17,7 @@ use Rattle.qtt_module.specs.TextCalls.{RefusesMain}
 use Rattle.qtt_build.specs.Built.{Built}
 use Rattle.qtt_build.specs.Build as builds
 use Rattle.qtt_build.specs.Judged.{DeclaresBuild, RefusesBuild}
-use Rattle.qtt_build.specs.Laws.{StoppedByBudget}
+use Rattle.qtt_build.specs.Laws.{StoppedByBudget, FollowsClauses, BuildFailsSo}
 use Rattle.qtt_outcome.specs.Stop.{Stop, no_holes, module_named, main_of, code_of}
 use Rattle.qtt_outcome.specs.Outcome.{Outcome, line, absent_line, texts_for, root_of, worked, outcome_of, run_outcome}
 
@@ -28,11 +30,14 @@ came texts input r = outcome_of (worked texts input r)
 abbrev pub Declares : Texts → Asked → Built → Type 0
 Declares texts r B = DeclaresBuild (read_in (texts_for texts r.work)) (root_of r.work) B
 
--- the same and nothing else, in a well-formed environment
+-- the same and nothing else, in a well-formed environment; and each body is that of clauses of one of the modules, as
+-- which its definition goes on
 pub record HasDerivations (texts : Texts) (r : Asked) (B : Built) : Type 0 where
   pub declares : Declares texts r B
   pub formed : WellFormed (env B.globals)
   pub alone : (C : Built) → Declares texts r C → C ≡ B
+  pub clauses : (d : GlobalId) (body : Term) → (definition_at (env B.globals) d).body ≡ Some body →
+      FollowsClauses declares.modules B d body
 
 -- a status with which the call has gone on to its command
 abbrev pub IsGoing : ℕ → Type 0
@@ -68,9 +73,11 @@ wants_main (Work.gen n) = true
 -- why a request is refused, a constructor a cause
 pub data Reason (texts : Texts) (r : Asked) : Refused → Type 0 where
   -- a text has a fault, there are too many modules or a ring of them; or a name, a hole to be filled in, a premise or a
-  -- question of the first module that is refused; and but for such a question the modules declare nothing
+  -- question of the first module that is refused; a premise is false in the relation; and but for such a question the
+  -- modules declare nothing
   no_build : {x : Refused} →
-      RefusesBuild (read_in (texts_for texts r.work)) (root_of r.work) r.budget (builds.Stop.refused x) →
+      (refused : RefusesBuild (read_in (texts_for texts r.work)) (root_of r.work) r.budget
+      (builds.Stop.refused x)) → BuildFailsSo refused →
       ((StoppedByBudget (builds.Stop.refused x) → ⊥) → (B : Built) → Declares texts r B → ⊥) →
       Reason texts r x
   -- all is accepted, and there is a hole
