@@ -1,0 +1,5 @@
+mod Reading
+mod Calls
+mod Handle
+mod Budget
+mod Mismatch

@@ -1,0 +1,4 @@
+pub mod Texts
+pub mod Handle
+pub mod Budget
+pub mod Mismatch
