@@ -4,7 +4,7 @@ use crate::texts::{Before, elaborated};
 use std::test::Fail;
 
 /// Texts, and the line of their last definition.
-static PROGRAMS: [(&str, &str); 26] = [
+static PROGRAMS: [(&str, &str); 30] = [
     // variables, literals, names and universes
     (
         "id : (1 x : Int) -> Int\nid = \\x => x",
@@ -74,6 +74,10 @@ static PROGRAMS: [(&str, &str); 26] = [
         "x : (0 y : Int) -> Int\nx = \\y => let 0 z = y in 3",
         "Main.x : ((0 x0 : Int) -> Int) = (\\(0 x0 : Int) => ((\\(0 x1 : Int) => 3) @0 x0))",
     ),
+    (
+        "x : Int\nx = let y = (let z = 3 in z) in y",
+        "Main.x : Int = ((\\(x0 : Int) => x0) ((\\(x0 : Int) => x0) 3))",
+    ),
     ("x : Int\nx = the Int 3", "Main.x : Int = 3"),
     (
         "x : Int\nx = (the (Int -> Int) (\\y => y)) 3",
@@ -83,6 +87,18 @@ static PROGRAMS: [(&str, &str); 26] = [
     (
         "x : IO Int\nx = pure 3",
         "Main.x : (IO Int) = (pure {Int} 3)",
+    ),
+    (
+        "x : IO1 Int\nx = pure1 3",
+        "Main.x : (IO1 Int) = (pure1 {Int} 3)",
+    ),
+    (
+        "x : (1 y : Int) -> IO1 Int\nx = \\y => pure1 y",
+        "Main.x : ((1 x0 : Int) -> (IO1 Int)) = (\\(1 x0 : Int) => (pure1 {Int} x0))",
+    ),
+    (
+        "x : IO Unit\nx = do putLine \"a\"",
+        "Main.x : (IO Unit) = (putLine \"a\")",
     ),
     (
         "x : IO1 Handle\nx = open \"a\"",

@@ -8,7 +8,7 @@ use std::test::Fail;
 const CIRCLES: &str = "w : Type\nw = w\nv : Type\nv = v\nc : w\nc = c\n";
 
 /// Texts behind `CIRCLES`, and the line of the question that is spent at 5 contractions.
-static SPENT: [(&str, &str); 10] = [
+static SPENT: [(&str, &str); 15] = [
     (
         "x : w\nx = \\y => y",
         "Main:9:5: 24 BudgetSpent 5 head Main.w by LamCheck 1",
@@ -20,6 +20,26 @@ static SPENT: [(&str, &str); 10] = [
     (
         "x : Type\nx = c -> Int",
         "Main:9:5: 24 BudgetSpent 5 head Main.w by Pi 1",
+    ),
+    (
+        "x : Type\nx = Int -> c",
+        "Main:9:12: 24 BudgetSpent 5 head Main.w by Pi 2",
+    ),
+    (
+        "x : Int\nx = let f = \\(y : c) => 3 in 3",
+        "Main:9:19: 24 BudgetSpent 5 head Main.w by LamSynth 2",
+    ),
+    (
+        "x : Int -> Int\nx = \\(y : c) => 3",
+        "Main:9:11: 24 BudgetSpent 5 head Main.w by LamCheck 3",
+    ),
+    (
+        "x : Int\nx = let y : c = 3 in 3",
+        "Main:9:13: 24 BudgetSpent 5 head Main.w by Let 1",
+    ),
+    (
+        "x : Int\nx = the c 3",
+        "Main:9:9: 24 BudgetSpent 5 head Main.w by The 1",
     ),
     (
         "x : c\nx = c",

@@ -5,7 +5,7 @@ use crate::texts::{Before, elaborated};
 use std::test::Fail;
 
 /// Texts, and the line of their refusal, behind which stand its rule and premise.
-static TEXTS: [(&str, &str); 51] = [
+static TEXTS: [(&str, &str); 55] = [
     // a binder or a constructor without a type
     (
         "x : Int\nx = let y = \\z => z in 3",
@@ -21,6 +21,10 @@ static TEXTS: [(&str, &str); 51] = [
     ),
     (
         "x : Int\nx = let y = pure 1 in 3",
+        "Main:3:13: 14 NeedsType by Pure 1",
+    ),
+    (
+        "x : Int\nx = let y = pure1 1 in 3",
         "Main:3:13: 14 NeedsType by Pure 1",
     ),
     (
@@ -101,6 +105,10 @@ static TEXTS: [(&str, &str); 51] = [
         "Main:3:11: 18 WrongUsage y declared 1 used 0 by Let 4",
     ),
     (
+        "x : (1 y : Int) -> IO Int\nx = \\y => pure y",
+        "Main:3:6: 18 WrongUsage y declared 1 used many by LamCheck 5",
+    ),
+    (
         "x : (1 y : Int) -> Int\nx = \\y => let z = y in z",
         "Main:3:6: 18 WrongUsage y declared 1 used many by LamCheck 5",
     ),
@@ -177,6 +185,10 @@ static TEXTS: [(&str, &str); 51] = [
         "x : IO Int\nx = pure 1 2",
         "Main:3:5: 21 WrongArity expected 1 found 2 by Pure 3",
     ),
+    (
+        "x : IO1 Int\nx = pure1 1 2",
+        "Main:3:5: 21 WrongArity expected 1 found 2 by Pure 3",
+    ),
     // another family
     (
         "x : Int\nx = True",
@@ -203,6 +215,10 @@ static TEXTS: [(&str, &str); 51] = [
     (
         "x : IO1 Int\nx = pure 1",
         "Main:3:5: 35 NotAnAction (IO1 Int) by Pure 2",
+    ),
+    (
+        "x : IO Int\nx = pure1 1",
+        "Main:3:5: 35 NotAnAction (IO Int) by Pure 2",
     ),
     (
         "x : Int\nx = do\n  y <- getLine\n  pure y",
