@@ -1,5 +1,5 @@
--- What an answer says of a whole expression: that it is derived, that a failure is one without a bound and has no
--- derivation, and which question is spent.
+-- What an answer says of a whole expression: that it is derived, that a failure is one without a bound and with
+-- convertible terms, and has no derivation, and which question is spent.
 use Rattle.std.proofs.Common.{◌≡◌, ℕ, Result, Ok, Err, refl, subst}
 use Rattle.qtt_syntax.specs.Tree.{Tree, Binders, Statements}
 use Rattle.qtt_term.specs.Term.{Term}
@@ -10,6 +10,8 @@ use Rattle.qtt_term.specs.FirstSpent.{FirstSpent, Says}
 use Rattle.qtt_term.specs.Entries.{Entries, env}
 use Rattle.qtt_term.specs.Scope.{Scope}
 use Rattle.qtt_confluence.proofs.Endings.{says, one-ending}
+use Rattle.qtt_conclusions.specs.Conclusions.{Concludes}
+use Rattle.qtt_conclusions.proofs.Heads.{conclude}
 use Rattle.qtt_rules.specs.declared.errors.ElabError.{ElabError}
 use Rattle.qtt_rules.specs.declared.errors.ElabError.TheVariants as error
 use Rattle.qtt_rules.specs.Refusal.{Cause, Place, Refusal, at, refused}
@@ -36,6 +38,9 @@ module _ (G : Entries) (n : ℕ) (p : Part) (S : Scope) (m : Mode) (e : Tree) (b
   abbrev FailsSo : Cause → Place → Type 0
   FailsSo c w = Ends (env G) (judge G p S m e) (Ending.fails (refused c w))
 
+  abbrev IsFalseSo : Cause → Place → Type 0
+  IsFalseSo c w = Concludes (env G) (judge G p S m e) (Ending.fails (refused c w))
+
   abbrev HasNone : Cause → Place → Type 0
   HasNone c w = (j : Judged) → Elaborates G p S m e j → ⊥
 
@@ -43,6 +48,11 @@ module _ (G : Entries) (n : ℕ) (p : Part) (S : Scope) (m : Mode) (e : Tree) (b
   failed-so (Kept.premise c) w h = ending G n p S m e (Ending.fails (refused c w)) h.is
   failed-so (Kept.question_of b q) w h = tt
   failed-so Kept.nothing w h = tt
+
+  false-so : (k : Kept) (w : Place) → WherePremise k w FailsSo → WherePremise k w IsFalseSo
+  false-so (Kept.premise c) w h = conclude bodies h
+  false-so (Kept.question_of b q) w h = tt
+  false-so Kept.nothing w h = tt
 
   has-none : (k : Kept) (w : Place) → WherePremise k w FailsSo → WherePremise k w HasNone
   has-none (Kept.premise c) w h = λ j d. underived G p S m e bodies (refused c w) j h d
@@ -56,12 +66,12 @@ module _ (G : Entries) (n : ℕ) (p : Part) (S : Scope) (m : Mode) (e : Tree) (b
   spent-so Kept.nothing w h = tt
 
   refusal-is-so : (r : ElabError) → Refuses (env G) n (judge G p S m e) r →
-      WhereFails r FailsSo × WhereFails r HasNone
+      WhereFails r FailsSo × WhereFails r IsFalseSo × WhereFails r HasNone
       × WhereSpent r (λ w q. FirstSpent (env G) n (judge G p S m e) w q)
   refusal-is-so (error.Refused d s r k) h =
       let f = failed-so (kept d) (at s r k) h in
-      (f, has-none (kept d) (at s r k) f, spent-so (kept d) (at s r k) h)
-  refusal-is-so error.Memory h = (tt, tt, tt)
+      (f, false-so (kept d) (at s r k) f, has-none (kept d) (at s r k) f, spent-so (kept d) (at s r k) h)
+  refusal-is-so error.Memory h = (tt, tt, tt, tt)
 
   -- the call's answer, and what it says
   pub elaborated : {X : Type 0} (view : X → Judged) (r : Result X ElabError) →
@@ -70,12 +80,13 @@ module _ (G : Entries) (n : ℕ) (p : Part) (S : Scope) (m : Mode) (e : Tree) (b
     gives = h;
     sound = derived e G p S m (view x) (ending G n p S m e (Ending.ok (view x)) h.is);
     failed = tt;
+    false_so = tt;
     underived = tt;
     spent = tt;
   }
   elaborated view (Err r) h =
       let so = refusal-is-so r h in
-      record { gives = h; sound = tt; failed = so.0; underived = so.1; spent = so.2 }
+      record { gives = h; sound = tt; failed = so.0; false_so = so.1; underived = so.2; spent = so.3 }
 
 -- ---- in check mode the type is the given one
 mutual

@@ -8,6 +8,7 @@ use Rattle.qtt_term.specs.Ask.{Question, Ending, Ends}
 use Rattle.qtt_term.specs.FirstSpent.{FirstSpent}
 use Rattle.qtt_term.specs.Entries.{Entries, env}
 use Rattle.qtt_term.specs.Scope.{Scope}
+use Rattle.qtt_conclusions.specs.Conclusions.{Concludes}
 use Rattle.qtt_rules.specs.declared.errors.ElabError.{ElabError}
 use Rattle.qtt_rules.specs.declared.errors.ElabError.TheVariants as error
 use Rattle.qtt_rules.specs.Refusal.{Cause, Place, at, refused}
@@ -46,12 +47,14 @@ WhereSpent (error.Refused d s r k) P = WhereQuestion (kept d) (at s r k) P
 WhereSpent error.Memory P = Unit {0}
 
 -- the call answers as the elaboration of this expression ends within n contractions for each question: what it
--- gives is derived, what fails does so without a bound and has no derivation, and what is spent is the first question
--- that is
+-- gives is derived, what fails does so without a bound, is false with convertible terms in place of contractions and
+-- comparisons, and has no derivation, and what is spent is the first question that is
 pub record Elaborated (G : Entries) (n : ℕ) (p : Part) (S : Scope) (m : Mode) (e : Tree) {X : Type 0}
     (view : X → Judged) (result : Result X ElabError) : Type 0 where
   pub gives : Gives (env G) n (judge G p S m e) view result
   pub sound : IfOk result (λ x. Elaborates G p S m e (view x))
   pub failed : IfErr result (λ r. WhereFails r (λ c w. Ends (env G) (judge G p S m e) (Ending.fails (refused c w))))
+  pub false_so : IfErr result
+      (λ r. WhereFails r (λ c w. Concludes (env G) (judge G p S m e) (Ending.fails (refused c w))))
   pub underived : IfErr result (λ r. WhereFails r (λ c w. (j : Judged) → Elaborates G p S m e j → ⊥))
   pub spent : IfErr result (λ r. WhereSpent r (λ w q. FirstSpent (env G) n (judge G p S m e) w q))

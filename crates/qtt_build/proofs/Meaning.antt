@@ -8,18 +8,26 @@ use Rattle.qtt_build.specs.declared.built.Built as code
 use Rattle.qtt_build.specs.declared.errors.BuildError.{BuildError}
 use Rattle.qtt_build.specs.declared.errors.BuildError.TheVariants as error
 use Rattle.qtt_build.specs.Build.{Stop, build}
-use Rattle.qtt_build.specs.Judged.{RefusesBuild}
 use Rattle.qtt_build.specs.Laws.{BuildLaws}
-use Rattle.qtt_build.specs.Answer.{built_of, Comes, Tells, IsBuild, IsMeant, IsComplete}
+use Rattle.qtt_build.specs.Answer.{built_of, Comes, IsStopped, Tells, IsBuild, IsMeant, IsComplete}
 
 module _ (laws : BuildLaws) (told : Option Texts) (root : Name) (n : ℕ) where
-  stops : (s : Stop) → Comes told root n (Err s) → Tells told (λ texts. RefusesBuild (read_in texts) root n s)
-  stops s c = (c.0, c.1, laws.judged.stopped (read_in c.0) root n s c.2)
+  stops : (s : Stop) → Comes told root n (Err s) → Tells told (λ texts. IsStopped texts root n s)
+  stops s c =
+      let x = laws.judged.stopped (read_in c.0) root n s c.2 in
+      (c.0, c.1, record { refuses = x; false_so = laws.refusals c.0 root n s x })
 
   pub meant : (r : Result code.Built BuildError) → IsBuild told root n r → IsMeant told root n r
   meant (Ok b) h =
-      let d = laws.judged.built (read_in h.0.0) root n (built_of b) h.0.2 in
-      ((h.0.0, h.0.1, d), laws.forms.formed h.0.0 root (built_of b) d)
+      let d = laws.judged.built (read_in h.0.0) root n (built_of b) h.0.2 in (
+        h.0.0,
+        h.0.1,
+        record {
+          declares = d;
+          formed = laws.forms.formed h.0.0 root (built_of b) d;
+          clauses = laws.clauses h.0.0 root (built_of b) d;
+        },
+      )
   meant (Err (error.Refused r)) h = stops (Stop.refused (refused_of r)) h
   meant (Err (error.Absent a)) h = stops (Stop.absent a) h
   meant (Err error.VaultFault) h = tt

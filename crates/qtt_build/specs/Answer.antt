@@ -1,10 +1,13 @@
 -- What the calls of a build answer.
 use Rattle.std.specs.Prelude.{◌≡◌, ℕ, ◌+◌, List, [], ◌∷◌, map, length, slice_get, Option, Some, IfSome, option_map, Result, Ok, Err, Vec}
 use Rattle.std.specs.Global.{Global}
+use Rattle.qtt_base.specs.declared.place.GlobalId.{GlobalId}
 use Rattle.qtt_base.specs.declared.place.ModuleId.{ModuleId}
 use Rattle.qtt_syntax.specs.Tree.{Module}
 use Rattle.qtt_syntax.specs.View.{module_of}
 use Rattle.qtt_graph.specs.Graph.{Name}
+use Rattle.qtt_term.specs.Term.{Term}
+use Rattle.qtt_term.specs.Signature.{definition_at}
 use Rattle.qtt_term.specs.Environment.{WellFormed}
 use Rattle.qtt_term.specs.Entries.{env, entries}
 use Rattle.qtt_load.specs.Reading.{Texts, read_in}
@@ -26,6 +29,7 @@ use Rattle.qtt_build.specs.declared.worker.Job.{Job}
 use Rattle.qtt_build.specs.Built.{Built, imports_for}
 use Rattle.qtt_build.specs.Build.{Stop, Outcome, build}
 use Rattle.qtt_build.specs.Judged.{DeclaresBuild, RefusesBuild}
+use Rattle.qtt_build.specs.Laws.{FollowsClauses, BuildFailsSo}
 
 -- ---- values of the code
 abbrev pub accepted_list : Vec checked.Checked Global → List Accepted
@@ -100,17 +104,29 @@ abbrev pub IsJudged : Option Texts → Name → ℕ → Result code.Built Module
 IsJudged told root n (Ok b) = IsBuild told root n (Ok b)
 IsJudged told root n (Err e) = IsBuild told root n (Err (of_module e))
 
--- in the relation, of some texts, or of those that the vault tells: the modules declare what is built, in a well-formed
--- environment; or the reason why there is none
+-- ---- in the relation
+-- the modules declare what is built, in a well-formed environment, and each body of it is by clauses of one of them
+pub record IsDerived (texts : Texts) (root : Name) (B : Built) : Type 0 where
+  pub declares : DeclaresBuild (read_in texts) root B
+  pub formed : WellFormed (env B.globals)
+  pub clauses : (d : GlobalId) (body : Term) → (definition_at (env B.globals) d).body ≡ Some body →
+      FollowsClauses declares.modules B d body
+
+-- the reason why there is none; a premise that fails is false with convertible terms in place of contractions and
+-- comparisons
+pub record IsStopped (texts : Texts) (root : Name) (n : ℕ) (s : Stop) : Type 0 where
+  pub refuses : RefusesBuild (read_in texts) root n s
+  pub false_so : BuildFailsSo refuses
+
+-- of some texts, or of those that the vault tells
 abbrev pub Tells : Option Texts → (Texts → Type 0) → Type 0
 Tells told P = (texts : Texts) × IfSome told (λ f. f ≡ texts) × P texts
 
 abbrev pub IsMeant : Option Texts → Name → ℕ → Result code.Built BuildError → Type 0
-IsMeant told root n (Ok b) =
-    Tells told (λ texts. DeclaresBuild (read_in texts) root (built_of b)) × WellFormed (env (entries b.env))
+IsMeant told root n (Ok b) = Tells told (λ texts. IsDerived texts root (built_of b))
 IsMeant told root n (Err (error.Refused r)) =
-    Tells told (λ texts. RefusesBuild (read_in texts) root n (Stop.refused (refused_of r)))
-IsMeant told root n (Err (error.Absent a)) = Tells told (λ texts. RefusesBuild (read_in texts) root n (Stop.absent a))
+    Tells told (λ texts. IsStopped texts root n (Stop.refused (refused_of r)))
+IsMeant told root n (Err (error.Absent a)) = Tells told (λ texts. IsStopped texts root n (Stop.absent a))
 IsMeant told root n (Err error.VaultFault) = Unit {0}
 IsMeant told root n (Err error.Memory) = Unit {0}
 

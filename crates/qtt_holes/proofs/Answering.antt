@@ -1,5 +1,5 @@
--- What an answer of the walk says: that a hole is derived, that a failure is one without a bound and has no derivation,
--- and which question is spent.
+-- What an answer of the walk says: that a hole is derived, that a failure is one without a bound and with convertible
+-- terms, and has no derivation, and which question is spent.
 use Rattle.std.proofs.Common.{◌≡◌, ℕ, List, Result, Ok, Err, subst}
 use Rattle.qtt_syntax.specs.Tree.{Tree}
 use Rattle.qtt_term.specs.Term.{Term}
@@ -10,6 +10,8 @@ use Rattle.qtt_term.specs.FirstSpent.{FirstSpent, Says}
 use Rattle.qtt_term.specs.Entries.{Entries, env}
 use Rattle.qtt_term.specs.Scope.{Scope}
 use Rattle.qtt_confluence.proofs.Endings.{says, one-ending}
+use Rattle.qtt_conclusions.specs.Conclusions.{Concludes}
+use Rattle.qtt_conclusions.proofs.Heads.{conclude}
 use Rattle.qtt_rules.specs.declared.errors.ElabError.{ElabError}
 use Rattle.qtt_rules.specs.declared.errors.ElabError.TheVariants as error
 use Rattle.qtt_rules.specs.Refusal.{Cause, Place, Refusal, at, refused}
@@ -30,6 +32,9 @@ module _ (G : Entries) (n : ℕ) (p : Part) (S : Scope) (ns : List (List ℕ)) (
   abbrev FailsSo : Cause → Place → Type 0
   FailsSo c w = Ends (env G) (walk G p S ns rs e A) (Ending.fails (refused c w))
 
+  abbrev IsFalseSo : Cause → Place → Type 0
+  IsFalseSo c w = Concludes (env G) (walk G p S ns rs e A) (Ending.fails (refused c w))
+
   abbrev HasNone : Cause → Place → Type 0
   HasNone c w = (h : Hole) → HasHole G p S ns rs e A h → ⊥
 
@@ -49,6 +54,11 @@ module _ (G : Entries) (n : ℕ) (p : Part) (S : Scope) (ns : List (List ℕ)) (
   failed-so (Kept.question_of b q) w h = tt
   failed-so Kept.nothing w h = tt
 
+  false-so : (k : Kept) (w : Place) → WherePremise k w FailsSo → WherePremise k w IsFalseSo
+  false-so (Kept.premise c) w h = conclude bodies h
+  false-so (Kept.question_of b q) w h = tt
+  false-so Kept.nothing w h = tt
+
   has-none : (k : Kept) (w : Place) → WherePremise k w FailsSo → WherePremise k w HasNone
   has-none (Kept.premise c) w h = underived c w h
   has-none (Kept.question_of b q) w h = tt
@@ -61,12 +71,12 @@ module _ (G : Entries) (n : ℕ) (p : Part) (S : Scope) (ns : List (List ℕ)) (
   spent-so Kept.nothing w h = tt
 
   refusal-is-so : (r : ElabError) → Refuses (env G) n (walk G p S ns rs e A) r →
-      WhereFails r FailsSo × WhereFails r HasNone
+      WhereFails r FailsSo × WhereFails r IsFalseSo × WhereFails r HasNone
       × WhereSpent r (λ w q. FirstSpent (env G) n (walk G p S ns rs e A) w q)
   refusal-is-so (error.Refused d s r k) h =
       let f = failed-so (kept d) (at s r k) h in
-      (f, has-none (kept d) (at s r k) f, spent-so (kept d) (at s r k) h)
-  refusal-is-so error.Memory h = (tt, tt, tt)
+      (f, false-so (kept d) (at s r k) f, has-none (kept d) (at s r k) f, spent-so (kept d) (at s r k) h)
+  refusal-is-so error.Memory h = (tt, tt, tt, tt)
 
   -- the call's answer, and what it says
   pub answered : (r : Result code_hole.Hole ElabError) → Gives (env G) n (walk G p S ns rs e A) hole r →
@@ -75,9 +85,10 @@ module _ (G : Entries) (n : ℕ) (p : Part) (S : Scope) (ns : List (List ℕ)) (
     gives = h;
     sound = walk_so G p S ns rs e A (hole x) (ending (Ending.ok (hole x)) h.is);
     failed = tt;
+    false_so = tt;
     underived = tt;
     spent = tt;
   }
   answered (Err r) h =
       let so = refusal-is-so r h in
-      record { gives = h; sound = tt; failed = so.0; underived = so.1; spent = so.2 }
+      record { gives = h; sound = tt; failed = so.0; false_so = so.1; underived = so.2; spent = so.3 }

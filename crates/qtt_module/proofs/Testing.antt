@@ -1,5 +1,5 @@
 -- What an answer of the test of a main says: that a definition is the main, that a failure is one without a bound and
--- then there is no main, and which question is spent.
+-- with convertible terms, and then there is no main, and which question is spent.
 use Rattle.std.proofs.Common.{◌≡◌, ◌∙◌, ℕ, true, List, Option, Some, None, Result, Ok, Err, refl, ap, subst}
 use Rattle.qtt_base.specs.declared.place.GlobalId.{GlobalId}
 use Rattle.qtt_base.specs.declared.place.Span.{Span}
@@ -16,6 +16,8 @@ use Rattle.qtt_term.specs.Ask.{Question, Ending, Ends, within, on_answer}
 use Rattle.qtt_term.specs.FirstSpent.{FirstSpent, Says}
 use Rattle.qtt_term.specs.Entries.{Entries, env}
 use Rattle.qtt_confluence.proofs.Endings.{says, one-ending}
+use Rattle.qtt_conclusions.specs.Conclusions.{Concludes}
+use Rattle.qtt_conclusions.proofs.Heads.{conclude}
 use Rattle.qtt_rules.specs.declared.errors.ElabError.{ElabError}
 use Rattle.qtt_rules.specs.declared.errors.ElabError.TheVariants as error
 use Rattle.qtt_rules.specs.Refusal.{Cause, Place, Refusal, at, refused}
@@ -32,6 +34,9 @@ use Rattle.qtt_module.proofs.Onward.{past}
 module _ (G : Entries) (n : ℕ) (s : Span) (named : Option GlobalId) (bodies : BodiesClosed (env G)) where
   abbrev FailsSo : Cause → Place → Type 0
   FailsSo c w = Ends (env G) (main G s named) (Ending.fails (refused c w))
+
+  abbrev IsFalseSo : Cause → Place → Type 0
+  IsFalseSo c w = Concludes (env G) (main G s named) (Ending.fails (refused c w))
 
   abbrev IsNone : Cause → Place → Type 0
   IsNone c w = (d : GlobalId) → IsMain G named d → ⊥
@@ -51,6 +56,11 @@ module _ (G : Entries) (n : ℕ) (s : Span) (named : Option GlobalId) (bodies : 
   failed-so (Kept.question_of b q) w h = tt
   failed-so Kept.nothing w h = tt
 
+  false-so : (k : Kept) (w : Place) → WherePremise k w FailsSo → WherePremise k w IsFalseSo
+  false-so (Kept.premise c) w h = conclude bodies h
+  false-so (Kept.question_of b q) w h = tt
+  false-so Kept.nothing w h = tt
+
   none-so : (k : Kept) (w : Place) → WherePremise k w FailsSo → WherePremise k w IsNone
   none-so (Kept.premise c) w h = none-is c w h
   none-so (Kept.question_of b q) w h = tt
@@ -63,24 +73,25 @@ module _ (G : Entries) (n : ℕ) (s : Span) (named : Option GlobalId) (bodies : 
   spent-so Kept.nothing w h = tt
 
   refusal-is-so : (r : ElabError) → Refuses (env G) n (main G s named) r →
-      WhereFails r FailsSo × WhereFails r IsNone
+      WhereFails r FailsSo × WhereFails r IsFalseSo × WhereFails r IsNone
       × WhereSpent r (λ w q. FirstSpent (env G) n (main G s named) w q)
   refusal-is-so (error.Refused d p r k) h =
       let f = failed-so (kept d) (at p r k) h in
-      (f, none-so (kept d) (at p r k) f, spent-so (kept d) (at p r k) h)
-  refusal-is-so error.Memory h = (tt, tt, tt)
+      (f, false-so (kept d) (at p r k) f, none-so (kept d) (at p r k) f, spent-so (kept d) (at p r k) h)
+  refusal-is-so error.Memory h = (tt, tt, tt, tt)
 
   pub tested : (r : Result GlobalId ElabError) → Gives (env G) n (main G s named) (λ d. d) r → TestsMain G n s named r
   tested (Ok d) h = record {
     gives = h;
     sound = main_so G s named d (ending (Ending.ok d) h.is);
     failed = tt;
+    false_so = tt;
     underived = tt;
     spent = tt;
   }
   tested (Err r) h =
       let so = refusal-is-so r h in
-      record { gives = h; sound = tt; failed = so.0; underived = so.1; spent = so.2 }
+      record { gives = h; sound = tt; failed = so.0; false_so = so.1; underived = so.2; spent = so.3 }
 
 -- ---- how the test ends
 pub used : (q : Mult) → (q ≡ 𝟘 → ⊥) → usable Part.run q ≡ true

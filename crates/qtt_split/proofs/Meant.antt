@@ -1,5 +1,5 @@
 -- The plan of a definition, question by question, and what the answer of the public call says: what is planned within a
--- budget is planned without one, and so is what fails; and which question is spent.
+-- budget is planned without one, and so is what fails, also with convertible terms; and which question is spent.
 use Rattle.std.proofs.Common.{◌≡◌, ◌∙◌, ℕ, List, [], length, reverse, Option, Result, Ok, Err, sym, ap, subst}
 use Rattle.std.proofs.lemmas.List.{length-map}
 use Rattle.qtt_usage.specs.declared.mult.Mult.{Mult}
@@ -7,12 +7,15 @@ use Rattle.qtt_term.specs.declared.term.Term as code_term
 use Rattle.qtt_term.specs.Term.{Term}
 use Rattle.qtt_term.specs.Judgement.{Ctx, ext}
 use Rattle.qtt_term.specs.Signature.{Env}
+use Rattle.qtt_term.specs.Contraction.{BodiesClosed}
 use Rattle.qtt_term.specs.Ask.{Ask, ◌>>=◌, Ending, Ends, within}
 use Rattle.qtt_term.specs.FirstSpent.{FirstSpent, Says}
 use Rattle.qtt_term.specs.Entries.{env}
 use Rattle.qtt_term.specs.Telescopes.{tele}
 use Rattle.qtt_term.specs.View.{term}
 use Rattle.qtt_confluence.proofs.Endings.{says}
+use Rattle.qtt_conclusions.specs.Conclusions.{Concludes}
+use Rattle.qtt_conclusions.proofs.Heads.{conclude}
 use Rattle.qtt_rules.specs.declared.errors.ElabError.{ElabError}
 use Rattle.qtt_rules.specs.declared.errors.ElabError.TheVariants as error
 use Rattle.qtt_rules.specs.Refusal.{Cause, Place, Refusal, at, refused}
@@ -119,7 +122,7 @@ module _ (E : Env) (n : ℕ) (G : Group) (A : Term) (labels : List (Option (List
       (on {E = E} {n = n} {m = grown_asked O} (λ g. Ask.done (planned_with O g)) h on_done)))
 
 -- ---- the public call
-module _ (G : Group) (n : ℕ) (A : Term) (labels : List (Option (List ℕ))) where
+module _ (G : Group) (n : ℕ) (A : Term) (labels : List (Option (List ℕ))) (bodies : BodiesClosed (env G.globals)) where
   ending : (r : Ending Refusal Place Planned) → within (env G.globals) n (plan G A labels) ≡ r →
       Says (env G.globals) n (plan G A labels) r
   ending r h =
@@ -133,6 +136,14 @@ module _ (G : Group) (n : ℕ) (A : Term) (labels : List (Option (List ℕ))) wh
   failed-so (Kept.question_of b q) w h = tt
   failed-so Kept.nothing w h = tt
 
+  abbrev IsFalseSo : Cause → Place → Type 0
+  IsFalseSo c w = Concludes (env G.globals) (plan G A labels) (Ending.fails (refused c w))
+
+  false-so : (k : Kept) (w : Place) → WherePremise k w FailsSo → WherePremise k w IsFalseSo
+  false-so (Kept.premise c) w h = conclude bodies h
+  false-so (Kept.question_of b q) w h = tt
+  false-so Kept.nothing w h = tt
+
   spent-so : (k : Kept) (w : Place) → Tells (env G.globals) n (plan G A labels) w k →
       WhereQuestion k w (λ w q. FirstSpent (env G.globals) n (plan G A labels) w q)
   spent-so (Kept.premise c) w h = tt
@@ -140,9 +151,12 @@ module _ (G : Group) (n : ℕ) (A : Term) (labels : List (Option (List ℕ))) wh
   spent-so Kept.nothing w h = tt
 
   refusal-is-so : (r : ElabError) → Refuses (env G.globals) n (plan G A labels) r →
-      WhereFails r FailsSo × WhereSpent r (λ w q. FirstSpent (env G.globals) n (plan G A labels) w q)
-  refusal-is-so (error.Refused d s r k) h = (failed-so (kept d) (at s r k) h, spent-so (kept d) (at s r k) h)
-  refusal-is-so error.Memory h = (tt, tt)
+      WhereFails r FailsSo × WhereFails r IsFalseSo
+      × WhereSpent r (λ w q. FirstSpent (env G.globals) n (plan G A labels) w q)
+  refusal-is-so (error.Refused d s r k) h =
+      let f = failed-so (kept d) (at s r k) h in
+      (f, false-so (kept d) (at s r k) f, spent-so (kept d) (at s r k) h)
+  refusal-is-so error.Memory h = (tt, tt, tt)
 
   pub plans-so : (r : Result code.Planned ElabError) → Gives (env G.globals) n (plan G A labels) planned_of r →
       Plans G n A labels r
@@ -150,7 +164,9 @@ module _ (G : Group) (n : ℕ) (A : Term) (labels : List (Option (List ℕ))) wh
     gives = h;
     sound = ending (Ending.ok (planned_of x)) h.is;
     failed = tt;
+    false_so = tt;
     spent = tt;
   }
   plans-so (Err r) h =
-      let so = refusal-is-so r h in record { gives = h; sound = tt; failed = so.0; spent = so.1 }
+      let so = refusal-is-so r h in
+      record { gives = h; sound = tt; failed = so.0; false_so = so.1; spent = so.2 }

@@ -9,6 +9,7 @@ use Rattle.qtt_term.specs.Ask.{Question, Ending, Ends}
 use Rattle.qtt_term.specs.FirstSpent.{FirstSpent}
 use Rattle.qtt_term.specs.Entries.{Entries, env}
 use Rattle.qtt_term.specs.Telescopes.{tele}
+use Rattle.qtt_conclusions.specs.Conclusions.{Concludes}
 use Rattle.qtt_rules.specs.declared.errors.ElabError.{ElabError}
 use Rattle.qtt_rules.specs.declared.errors.ElabError.TheVariants as error
 use Rattle.qtt_rules.specs.Refusal.{Cause, Place, at, refused}
@@ -58,12 +59,16 @@ abbrev pub WhereSpent : ElabError → (Place → Question → Type 0) → Type 0
 WhereSpent (error.Refused d s r k) P = WhereQuestion (kept d) (at s r k) P
 WhereSpent error.Memory P = Unit {0}
 
--- ---- the call answers as the plan of a definition of this type ends within n contractions for each question: what it
--- gives is planned without a bound too, what fails does so without one, and what is spent is the first question that is
+-- ---- the public call
+-- it answers as the plan of a definition of this type ends within n contractions for each question: what it gives is
+-- planned without a bound too, what fails does so without one, and is false with convertible terms in place of
+-- contractions and comparisons, and what is spent is the first question that is
 pub record Plans (G : Group) (n : ℕ) (A : Term) (labels : List (Option (List ℕ)))
     (result : Result code.Planned ElabError) : Type 0 where
   pub gives : Gives (env G.globals) n (plan G A labels) planned_of result
   pub sound : IfOk result (λ x. Ends (env G.globals) (plan G A labels) (Ending.ok (planned_of x)))
   pub failed : IfErr result
       (λ r. WhereFails r (λ c w. Ends (env G.globals) (plan G A labels) (Ending.fails (refused c w))))
+  pub false_so : IfErr result
+      (λ r. WhereFails r (λ c w. Concludes (env G.globals) (plan G A labels) (Ending.fails (refused c w))))
   pub spent : IfErr result (λ r. WhereSpent r (λ w q. FirstSpent (env G.globals) n (plan G A labels) w q))

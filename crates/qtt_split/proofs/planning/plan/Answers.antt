@@ -3,6 +3,7 @@ use Rattle.qtt_term.specs.Contexts.{part}
 use Rattle.qtt_term.specs.Entries.{entries, env}
 use Rattle.qtt_term.specs.Scope.{name_of}
 use Rattle.qtt_term.specs.View.{term}
+use Rattle.qtt_term.proofs.Kept.{globals-closed}
 use Rattle.qtt_split.specs.Answers.{Gives}
 use Rattle.qtt_split.specs.Calls.{clause_of}
 use Rattle.qtt_split.specs.Plan.{plan}
@@ -17,7 +18,7 @@ returns g c =
     let G = group_with K (part c.args.sigma) c.args.clauses.now in
     let A = term c.args.ty.now in
     let labels = map name_of c.args.labels.now in
-    plans-so G c.args.budget A labels c.planned.result
+    plans-so G c.args.budget A labels (globals-closed c.args.globals.now) c.planned.result
     (subst (λ s. Gives (env K) c.args.budget
     (plan (record { globals = K; part = part c.args.sigma; clauses = cs; first = s; limit = G.limit }) A labels)
     planned_of c.planned.result) c.first_place.ensures
