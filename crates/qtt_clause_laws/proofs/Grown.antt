@@ -193,6 +193,23 @@ scope-at N x free = reverted-scope N.context (x ∷ free) (x ∷ free) (live (le
     (filter-below (length N.context) (λ i. any_shows i N.seen) (oldest_first (length N.context))
     (oldest-below (length N.context) (length N.context) (omega arith)))
 
+-- ---- a branch has one constructor pattern less behind the clause that decides
+pub in-branch : (G : Group) (N : Node) (r : Row) (rows : List Row) (x : Examined) → examined r.columns ≡ Some x →
+    (j : ℕ) → constructors_at r.columns + constructors_left rows ≤ suc j → (v : ℕ) → v ≡ x.variable →
+    (Θ : List (Mult × Term)) (con : Term) (s : List (ℕ × Term)) (free : List ℕ) → IsMade con →
+    decided (decide G.globals (map (moved_row
+    (bound_again (reverted_at (with_rows N (r ∷ rows)) v free) (stands v con s (length Θ)))) (r ∷ rows))) ≤ j
+in-branch G N r rows x e j few v p Θ con s free h =
+    let M = with_rows N (r ∷ rows) in
+    let rs = reverted_at M v free in
+    let δ = bound_again rs (stands v con s (length Θ)) in
+    let out : NotIn v rs = not_reverted M.context v (v ∷ free) (first_among v free) (v ∷ free)
+    (live (length M.context) M.seen) in
+    let there : IsMade (δ x.variable) = subst (λ y. IsMade (δ y)) p
+    (made_again v rs (stands v con s (length Θ)) out (made_there v (length Θ) con s h)) in
+    let less = fewer G.globals x δ there r rows e in
+    omega arith
+
 -- ---- right sides
 -- terms for these leaves, from the front of a list, and what is left of it
 pub data SidesOf (R : Leaf → Term → Type 0) : List Leaf → Terms → Terms → Type 0 where
@@ -256,20 +273,6 @@ module _ (G : Group) (R : Leaf → Term → Type 0) where
     abbrev M : Node
     M = with_rows N (r ∷ rows)
 
-    at-branch : (v : ℕ) → v ≡ x.variable → (Θ : List (Mult × Term)) (names : List (Option (List ℕ))) (id : ConId)
-        (con : Term) (s : List (ℕ × Term)) (free : List ℕ) → IsMade con →
-        decided (decide G.globals (map (moved_row (bound_again (reverted_at M v free) (stands v con s (length Θ))))
-        (r ∷ rows))) ≤ j
-    at-branch v p Θ names id con s free h =
-        let rs = reverted_at M v free in
-        let δ = bound_again rs (stands v con s (length Θ)) in
-        let out : NotIn v rs = not_reverted M.context v (v ∷ free) (first_among v free) (v ∷ free)
-        (live (length M.context) M.seen) in
-        let there : IsMade (δ x.variable) = subst (λ y. IsMade (δ y)) p
-        (made_again v rs (stands v con s (length Θ)) out (made_there v (length Θ) con s h)) in
-        let less = fewer G.globals x δ there r rows e in
-        omega arith
-
     abbrev site : Division → Term → Site
     site D P = record {
       group = G;
@@ -284,13 +287,12 @@ module _ (G : Group) (R : Leaf → Term → Type 0) where
         AllJudged E' D (fam_at E' D.family).constructors vs → (left : ℕ) (bs : GrownBranches) →
         Ends E' (branches g (site D P) 0 (fam_at E' D.family).constructors vs left) (Ending.ok bs) →
         AreMadeSo (site D P) 0 (fam_at E' D.family).constructors bs
-    site-made D p P js left bs e =
+    site-made D p P js left bs y =
         branches-made g (site D P) refl
         (λ k con s left t w. child (solved_node (site D P) k con s) left t
-        (at-branch D.over.variable p (fields_of D.mult D.over.params con)
-        (labels_of (constructor_entry G.globals (con_at (site D P) k))) (con_at (site D P) k)
+        (in-branch G N r rows x e j few D.over.variable p (fields_of D.mult D.over.params con)
         (con_of_fields (site D P) k (length con.fields)) s (free_variables D.over) is_made) w)
-        0 js left bs e
+        0 js left bs y
 
     split-made : (D : Division) → Divided E' M x.variable D → (vs : List Verdict) →
         AllJudged E' D (fam_at E' D.family).constructors vs → (left : ℕ) (t : Grown) →
@@ -322,7 +324,8 @@ module _ (G : Group) (R : Leaf → Term → Type 0) where
         (subst₂ (λ f ts. Conv E' (type_at N.context x.variable) (Fam f ts)) q whole v.conv)) is.conv refl
         (child (branch_node M [] [] D.over.variable refl_id (Refl del.type del.point) []
         (reverted_at M D.over.variable [])) left b.mid
-        (at-branch D.over.variable v.same [] [] refl_id (Refl del.type del.point) [] [] is_made) b.first ts rest k))
+        (in-branch G N r rows x e j few D.over.variable v.same [] (Refl del.type del.point) [] [] is_made) b.first ts
+        rest k))
 
     either-made : (D : Division) → Divided E' M x.variable D → (vs : List Verdict) →
         Ends E' (verdicts E' D (fam_at E' D.family).constructors) (Ending.ok vs) → (left : ℕ) (o : Option Cause) →

@@ -12,6 +12,7 @@ pub mod Asked
 pub mod Answering
 pub mod Equated
 pub mod Grown
+pub mod Counted
 pub mod Planned
 pub mod Ordered
 pub mod Bodies

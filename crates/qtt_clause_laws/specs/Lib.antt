@@ -1,5 +1,6 @@
 pub mod OneSplit
 pub mod Planned
+pub mod Counted
 pub mod Erased
 pub mod Larger
 pub mod Named

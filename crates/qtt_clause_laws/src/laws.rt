@@ -6,6 +6,7 @@ ghost use Rattle.qtt_erase.specs.Erasure.{Slots};
 ghost use Rattle.qtt_split.specs.Laws.{PlainClauseLaw, TypedClauseLaw, AcceptedIsClosed, BodiesAreMade};
 ghost use Rattle.qtt_clause_laws.specs.OneSplit.{OneSplit, OneDeletion};
 ghost use Rattle.qtt_clause_laws.specs.Planned.{PlansAreMade};
+ghost use Rattle.qtt_clause_laws.specs.Counted.{PlansAreWithinLimit};
 ghost use Rattle.qtt_clause_laws.specs.Larger.{EnvironmentsAreLarger};
 ghost use Rattle.qtt_clause_laws.specs.Named.{NamedStay, ReachedAreNamed};
 ghost use Rattle.qtt_clause_laws.specs.Accepted.{AcceptedBodiesGoOn, Enough, UnsolvedValuesStay};
@@ -49,6 +50,12 @@ pub fn typed_clause_law()
 /// sides at its leaves, under binders that are the definition's argument types up to conversion.
 pub fn plans_are_made()
     ensures { PlansAreMade }
+{}
+
+/// What is planned, within a budget or without one, has no more leaves than its limit says, where
+/// a constructor that clashes and a place where no clause is left count as one each.
+pub fn plans_are_within_limit()
+    ensures { PlansAreWithinLimit }
 {}
 
 /// What the core judgement accepts under no variables mentions none.

@@ -21,8 +21,9 @@
 //!
 //! Under it: both clause laws for each tree that the relation makes (`laws::plain_clause_law`,
 //! `laws::typed_clause_law`), what a typed value of a split's family is (`laws::one_split`,
-//! `laws::one_deletion`), and that plans and bodies are made by the relation
-//! (`laws::plans_are_made`, `laws::bodies_are_made`). Two programs are worked through the law:
+//! `laws::one_deletion`), that plans and bodies are made by the relation
+//! (`laws::plans_are_made`, `laws::bodies_are_made`), and that no plan has more leaves than its
+//! limit says (`laws::plans_are_within_limit`). Two programs are worked through the law:
 //! `laws::append_as_worked`, `laws::solved_place_as_worked`.
 //!
 //! Not shown here: that a definition whose clauses the relation allows is accepted.
