@@ -20,7 +20,7 @@ use Rattle.qtt_cli.specs.declared.verdict.Verdict.{Verdict}
 use Rattle.qtt_cli.specs.Stops.{Comes, AnswersOver, IsAbsent}
 use Rattle.qtt_cli.specs.Seen.{Seen, Over}
 use Rattle.qtt_cli.specs.Commands.{built_over, over_build, program_for}
-use Rattle.qtt_cli.specs.Parts.{DoesNothing, DoesAll, prints, Part}
+use Rattle.qtt_cli.specs.Parts.{DoesNothing, DoesAll, prints, asks_vault, Part}
 use Rattle.qtt_cli.specs.Printed.{Puts}
 use Rattle.qtt_cli.specs.Running.{Fails}
 use Rattle.qtt_cli.specs.Told.{status_of, line_of}
@@ -50,16 +50,17 @@ module _ (s : Seen) (r : Asked) (empty : ForSome s.outside.tapes_before (λ all.
   pub carries-stop : {A X : Type 0} (answer : Texts → Answer A) (view : X → A) (k : List ℕ → A → Answer Outcome) →
       ((t : Texts) (i : List ℕ) → worked t i r ≡ answer t >>= k i) → (result : Result X Stop) (x : Stop) →
       result ≡ Err x → AnswersOver s.texts answer view result → DoesNothing s.outside →
-      (IsAbsent result → s.missed ⊎ Generates r) → (Fails device.Vault result → s.failed device.Vault) →
-      Carries s r (Err x)
+      (IsAbsent result → s.missed ⊎ Generates r) →
+      (Fails device.Vault result → s.failed device.Vault × (asks_vault r.work ≡ true)) → Carries s r (Err x)
   carries-stop {X = X} answer view k shape result x e a n misses fails =
       by x (subst (AnswersOver s.texts answer view) e a)
       (subst (λ (y : Result X Stop). IsAbsent y → s.missed ⊎ Generates r) e misses)
-      (subst (λ (y : Result X Stop). Fails device.Vault y → s.failed device.Vault) e fails)
+      (subst (λ (y : Result X Stop). Fails device.Vault y → s.failed device.Vault × (asks_vault r.work ≡ true)) e fails)
     where
       by : (x : Stop) → AnswersOver s.texts answer view (Err x) →
           (IsAbsent {X = X} (Err x) → s.missed ⊎ Generates r) →
-          (Fails {X = X} device.Vault (Err x) → s.failed device.Vault) → Carries s r (Err x)
+          (Fails {X = X} device.Vault (Err x) → s.failed device.Vault × (asks_vault r.work ≡ true)) →
+          Carries s r (Err x)
       by stop.Usage a misses fails = absurd a
       by (stop.Absent m) a misses fails =
           let y = outcome.Stop.absent m in
@@ -70,7 +71,7 @@ module _ (s : Seen) (r : Asked) (empty : ForSome s.outside.tapes_before (λ all.
           let d = tells-only 1 (message (refused_of f).kept) s.outside empty n in
           stops answer k shape y a d (Err (stop.Refused f)) refl refl
       by (stop.Failed device.Vault) a misses fails =
-          record { failed = fails refl; over = some-over s; done = n }
+          let f = fails refl in record { failed = f.0; over = some-over s; done = (f.1, n) }
       by (stop.Failed device.Input) a misses fails = absurd a
       by (stop.Failed device.Output) a misses fails = absurd a
       by (stop.Failed device.Tape) a misses fails = absurd a

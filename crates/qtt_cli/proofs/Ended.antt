@@ -4,7 +4,7 @@ use Rattle.qtt_words.specs.Asked.{Asked, asked}
 use Rattle.qtt_build.specs.Built.{Built}
 use Rattle.qtt_outcome.specs.Outcome.{Outcome, outcome_of, answered, line, usage_line}
 use Rattle.qtt_outcome.specs.Completeness.{IsReady, GoesOn, IsOverBudget, DerivedGoesOn}
-use Rattle.qtt_outcome.specs.Headline.{came, Declares, HasDerivations, IsGoing, IsRefused, IsAbsent, IsRun, AcceptedIsDerived, RefusedForReason, GeneratedLackNone, AbsentIsTold, RunsAreEvaluations, JobsChangeNothing}
+use Rattle.qtt_outcome.specs.Headline.{came, Declares, HasDerivations, IsGoing, IsRefused, IsAbsent, runs, IsRun, AcceptedIsDerived, RefusedForReason, GeneratedLackNone, AbsentIsTold, RunsAreEvaluations, JobsChangeNothing}
 use Rattle.qtt_cli.specs.declared.device.Device.{Device}
 use Rattle.qtt_cli.specs.declared.stop.Stop.{Stop}
 use Rattle.qtt_cli.specs.declared.verdict.Verdict.{Verdict}
@@ -73,11 +73,11 @@ module _ (laws : Laws) (c : Call) (status : ℕ) where
               subst (λ (y : Asked). IsAbsent o.texts y (outcome_over c o)) (only x e)
               (subst (λ (y : Outcome). IsAbsent o.texts r y) (sym same)
               (laws.lacking o.texts o.input r (sym now ∙ lacks)));
-          run = λ x root e w going.
+          run = λ x e w going.
               let f = only x e in
               subst (λ (y : Asked). IsRun o.texts o.input y (outcome_over c o)) f
               (subst (λ (y : Outcome). IsRun o.texts o.input r y) (sym same)
-              (laws.evaluations o.texts o.input r root (ap (λ (y : Asked). y.work) f ∙ w) (subst IsGoing now going)));
+              (laws.evaluations o.texts o.input r (ap (λ (y : Asked). runs y.work) f ∙ w) (subst IsGoing now going)));
           complete = λ x B e declares ready.
               let f = only x e in
               subst (λ (y : Asked). GoesOn o.texts o.input y B ⊎ IsOverBudget o.texts y (outcome_over c o)) f
@@ -162,7 +162,7 @@ module _ (laws : Laws) (c : Call) (status : ℕ) where
           accepted = λ x e going. absurd (let g : None ≡ Some x = sym is ∙ e in cc g);
           refused = λ x e one. absurd (let g : None ≡ Some x = sym is ∙ e in cc g);
           absent = λ x e lacks. absurd (let g : None ≡ Some x = sym is ∙ e in cc g);
-          run = λ x root e w going. absurd (let g : None ≡ Some x = sym is ∙ e in cc g);
+          run = λ x e w going. absurd (let g : None ≡ Some x = sym is ∙ e in cc g);
           complete = λ x B e declares ready. absurd (let g : None ≡ Some x = sym is ∙ e in cc g);
           jobs = λ x j e. absurd (let g : None ≡ Some x = sym is ∙ e in cc g);
         };

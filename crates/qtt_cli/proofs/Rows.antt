@@ -1,13 +1,13 @@
 -- The worked calls.
 use Rattle.std.proofs.Common.{◌≡◌, ◌∙◌, ℕ, zero, suc, true, List, [], ◌∷◌, ◌++◌, take, inl, inr, Some, None, Ok, codes, refl, sym, ap, arith}
 use Rattle.qtt_term.specs.FullRun.{Event, text_of}
-use Rattle.qtt_words.specs.Asked.{Asked, asked}
+use Rattle.qtt_words.specs.Asked.{Work, Asked, asked}
 use Rattle.qtt_run.specs.Front.{Failure, DidFront, DidPartOfLine}
 use Rattle.qtt_load.specs.Reading.{Texts}
 use Rattle.qtt_outcome.specs.Outcome.{line, puts, usage_line, worked, answered, outcome_of}
 use Rattle.qtt_cli.specs.declared.device.Device.{Device}
 use Rattle.qtt_cli.specs.declared.device.Device.TheVariants as device
-use Rattle.qtt_cli.specs.Parts.{prints, Part, Breaks}
+use Rattle.qtt_cli.specs.Parts.{prints, asks_vault, Part, Breaks}
 use Rattle.qtt_cli.specs.Answers.{IsTold, Ends, outcome_over}
 use Rattle.qtt_cli.specs.Rows.{LineRows, BreakRows, AnswerRows, ended, put_out, two_lines, no_words}
 use Rattle.qtt_cli.proofs.Overs.{tells-only}
@@ -67,8 +67,10 @@ first-line-first d = by d.events d.later d.front d.part
 pub break-rows : BreakRows
 break-rows = record {
   front_of_text = front-of-text;
-  vault = λ texts r. record { output = refl; tapes = refl };
-  not_behind_the_vault = λ texts r d. absurd (let g : Some (codes "a") ≡ Some [] = d.output in cc g);
+  vault = λ texts r v. (v, record { output = refl; tapes = refl });
+  no_vault_is_asked = λ texts r n w d. absurd
+      (let g : asks_vault (Work.gen n) ≡ true = ap asks_vault (sym w) ∙ d.0 in cc g);
+  not_behind_the_vault = λ texts r d. absurd (let g : Some (codes "a") ≡ Some [] = d.1.output in cc g);
   front_of_run = record {
     events = Event.line (codes "a") ∷ [];
     later = Event.line (codes "b") ∷ [];

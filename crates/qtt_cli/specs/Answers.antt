@@ -1,14 +1,13 @@
 -- What holds where a status is answered.
-use Rattle.std.specs.Prelude.{◌≡◌, ℕ, List, ◌⊎◌, Option, Some, None, String}
+use Rattle.std.specs.Prelude.{◌≡◌, ℕ, true, List, ◌⊎◌, Option, Some, None, String}
 use Rattle.std.specs.declared.alloc.Global.{Global}
 use Rattle.qtt_edge.specs.Sink.{Adds, AddsFront}
-use Rattle.qtt_graph.specs.Graph.{Name}
-use Rattle.qtt_words.specs.Asked.{Work, Asked, asked}
+use Rattle.qtt_words.specs.Asked.{Asked, asked}
 use Rattle.qtt_run.specs.Front.{Failure}
 use Rattle.qtt_build.specs.Built.{Built}
 use Rattle.qtt_outcome.specs.Outcome.{Outcome, line, outcome}
 use Rattle.qtt_outcome.specs.Completeness.{IsReady, GoesOn, IsOverBudget}
-use Rattle.qtt_outcome.specs.Headline.{came, Declares, HasDerivations, IsGoing, IsRefused, IsAbsent, IsRun}
+use Rattle.qtt_outcome.specs.Headline.{came, Declares, HasDerivations, IsGoing, IsRefused, IsAbsent, runs, IsRun}
 use Rattle.qtt_cli.specs.declared.device.Device.{Device}
 use Rattle.qtt_cli.specs.Seen.{Seen, Over}
 use Rattle.qtt_cli.specs.Parts.{DoesNothing, DoesAll, Part, Breaks}
@@ -44,7 +43,7 @@ pub record Ends (c : Call) (status : ℕ) : Type 0 where
   pub absent : (r : Asked) → asked c.words ≡ Some r → status ≡ 66 → IsAbsent over.texts r (outcome_over c over)
   -- a run shows the full evaluation of main within the steps; tapes are used while they are open, and closed exactly
   -- once where it ends or traps
-  pub run : (r : Asked) (root : Name) → asked c.words ≡ Some r → r.work ≡ Work.run root → IsGoing status →
+  pub run : (r : Asked) → asked c.words ≡ Some r → runs r.work ≡ true → IsGoing status →
       IsRun over.texts over.input r (outcome_over c over)
   -- what the modules declare by the rules, where it is ready, is gone on over, unless a question takes more than the
   -- budget

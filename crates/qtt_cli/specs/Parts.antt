@@ -28,6 +28,14 @@ prints (Work.code a) = true
 prints (Work.run a) = false
 prints (Work.gen n) = false
 
+-- the command reads the vault; generated modules have one of their own
+abbrev pub asks_vault : Work → Bool
+asks_vault (Work.check a) = true
+asks_vault (Work.core a) = true
+asks_vault (Work.code a) = true
+asks_vault (Work.run a) = true
+asks_vault (Work.gen n) = false
+
 -- a run of the main of what is built
 pub record IsRunOf (texts : Texts) (input : List ℕ) (r : Asked) (R : Run) : Type 0 where
   pub built : Built
@@ -61,9 +69,9 @@ pub data Part (texts : Texts) (input : List ℕ) (r : Asked) (why : Failure) (s 
   behind : {R : Run} (n : ℕ) → r.work ≡ Work.gen n → IsOfPut why → (q : IsRunOf texts input r R) →
       PutsFrontBehind R (counts q.built R R.verdict) s → Part texts input r why s
 
--- what is done where this device fails
+-- what is done where this device fails; the vault fails only a command that reads it
 abbrev pub Breaks : Texts → List ℕ → Asked → Device → Outside → Type 0
-Breaks texts input r device.Vault s = DoesNothing s
+Breaks texts input r device.Vault s = (asks_vault r.work ≡ true) × DoesNothing s
 Breaks texts input r device.Input s = Part texts input r Failure.source s
 Breaks texts input r device.Output s = Part texts input r Failure.sink s
 Breaks texts input r device.Tape s = Part texts input r Failure.tape s

@@ -1,7 +1,7 @@
 -- Worked calls, as they are seen from outside.
 use Rattle.std.specs.Prelude.{◌≡◌, ℕ, true, List, [], ◌∷◌, ◌++◌, Some, None, Ok, Err, codes}
 use Rattle.qtt_term.specs.FullRun.{Event}
-use Rattle.qtt_words.specs.Asked.{Asked}
+use Rattle.qtt_words.specs.Asked.{Work, Asked}
 use Rattle.qtt_run.specs.Front.{Failure, Outside, DidFront}
 use Rattle.qtt_load.specs.Reading.{Texts}
 use Rattle.qtt_outcome.specs.Outcome.{line, puts, usage_line, worked}
@@ -10,7 +10,7 @@ use Rattle.qtt_cli.specs.declared.device.Device.TheVariants as device
 use Rattle.qtt_cli.specs.declared.stop.Stop.TheVariants as stop
 use Rattle.qtt_cli.specs.declared.verdict.Verdict.TheVariants as verdict
 use Rattle.qtt_cli.specs.Seen.{one_of}
-use Rattle.qtt_cli.specs.Parts.{prints, Breaks}
+use Rattle.qtt_cli.specs.Parts.{prints, asks_vault, Breaks}
 use Rattle.qtt_cli.specs.Told.{status_of, line_of}
 use Rattle.qtt_cli.specs.Answers.{Call, Answers}
 
@@ -49,8 +49,10 @@ pub record BreakRows : Type 0 where
   pub front_of_text : (texts : Texts) (r : Asked) → prints r.work ≡ true →
       worked texts [] r ≡ Ok (puts (ended (codes "checked Main 1"))) →
       Breaks texts [] r device.Output (put_out (codes "checked"))
-  -- nothing, where the vault failed
-  pub vault : (texts : Texts) (r : Asked) → Breaks texts [] r device.Vault (put_out [])
+  -- nothing, where the vault failed, which it does not under `gen`
+  pub vault : (texts : Texts) (r : Asked) → asks_vault r.work ≡ true → Breaks texts [] r device.Vault (put_out [])
+  pub no_vault_is_asked : (texts : Texts) (r : Asked) (n : ℕ) → r.work ≡ Work.gen n →
+      Breaks texts [] r device.Vault (put_out []) → ⊥
   pub not_behind_the_vault : (texts : Texts) (r : Asked) → Breaks texts [] r device.Vault (put_out (codes "a")) → ⊥
   -- the first line and a front of the second one
   pub front_of_run : DidFront two_lines Failure.sink (put_out (ended (codes "a") ++ codes "b"))

@@ -10,7 +10,7 @@ use Rattle.qtt_term.specs.Infer.{usable}
 use Rattle.qtt_term.specs.Term.{Io}
 use Rattle.qtt_term.specs.Contraction.{Conv}
 use Rattle.qtt_term.specs.TapeDiscipline.{ClosedOnce}
-use Rattle.qtt_term.specs.FullRun.{Verdict, full}
+use Rattle.qtt_term.specs.FullRun.{Verdict, Run, full}
 use Rattle.qtt_core_check.proofs.Forms.{is-usable}
 use Rattle.qtt_term.specs.Environment.{WellFormed, Complete, IsMain}
 use Rattle.qtt_term.specs.Entries.{Entries, env}
@@ -39,8 +39,8 @@ use Rattle.qtt_build.specs.Build as builds
 use Rattle.qtt_build.specs.Judged.{RefusesBuild}
 use Rattle.qtt_build.specs.Laws.{BuildLaws, HasNoHoles}
 use Rattle.qtt_outcome.specs.Stop.{Stop, Answer, ◌>>=◌, of_build, of_judged, holes_of, all_holes, hole_name, none_of, no_holes, module_named, main_in, main_of, program_of, within, code_of, Runnable, runnable}
-use Rattle.qtt_outcome.specs.Outcome.{Outcome, puts, stopped, outcome_of, check_text, core_text, verdict_status, run_outcome, run_of, counted_outcome, texts_for, root_of, built_for, put, worked}
-use Rattle.qtt_outcome.specs.Headline.{came, HasDerivations, IsGoing, AcceptedIsDerived, wants_no_hole, wants_main, Reason, IsRefused, RefusedForReason, IsAbsent, AbsentIsTold, OneOfThree, IsOver, IsRun, RunsAreEvaluations, MainsMayRun, JobsChangeNothing}
+use Rattle.qtt_outcome.specs.Outcome.{Outcome, puts, stopped, outcome_of, check_text, core_text, verdict_status, run_outcome, run_of, counts, counted_outcome, texts_for, root_of, built_for, put, worked}
+use Rattle.qtt_outcome.specs.Headline.{came, HasDerivations, IsGoing, AcceptedIsDerived, wants_no_hole, wants_main, Reason, IsRefused, RefusedForReason, IsAbsent, AbsentIsTold, OneOfThree, runs, behind_lines, IsOver, IsRun, RunsAreEvaluations, MainsMayRun, JobsChangeNothing}
 use Rattle.qtt_outcome.proofs.Answers.{Later, both, either}
 
 -- ---- statuses
@@ -533,11 +533,12 @@ module _ (laws : BuildLaws) (texts : Texts) (input : List ℕ) (r : Asked) where
           record { refusal = x; reason = worked-refused x e; told = refl; silent = refl }
 
   -- ---- runs
-  run-of-main : (root : Name) (B : Built) → HasDerivations texts r B → built_for texts r ≡ Ok B → (o : Outcome) →
-      put input r B (Work.run root) ≡ Ok o → IsRun texts input r o
-  unfolding put
-  run-of-main root B h b o e =
-      let k : Runnable → Outcome = λ x. run_outcome (run_of r.steps B x input) [] in
+  run-of-main : (root : Name) (B : Built) (h : HasDerivations texts r B) (more : Run → List ℕ) →
+      ((R : Run) → more R ≡ behind_lines r.work B R) → (o : Outcome) →
+      (no_holes B >>= behind_holes B h (with_main B h root (λ x. run_outcome (run_of r.steps B x input)
+      (more (run_of r.steps B x input))))) ≡ Ok o → IsRun texts input r o
+  run-of-main root B h more same o e =
+      let k : Runnable → Outcome = λ x. run_outcome (run_of r.steps B x input) (more (run_of r.steps B x input)) in
       let u = both (no_holes B) (behind_holes B h (with_main B h root k)) o e in
       let x = both (runnable r.budget root B) (shown B h k) o u.later in
       let shows : k x.value ≡ o = (let f : shown B h k x.value ≡ Ok o = x.later in cc f) in
@@ -552,7 +553,7 @@ module _ (laws : BuildLaws) (texts : Texts) (input : List ℕ) (r : Asked) where
         complete = whole;
         main = x.value.main;
         is_main = main;
-        shows = sym shows;
+        shows = sym shows ∙ ap (run_outcome (run_of r.steps B x.value input)) (same (run_of r.steps B x.value input));
         disciplined = t.always;
         closed = over (full r.steps (env B.globals) x.value.main input).verdict refl t;
       }
@@ -565,16 +566,24 @@ module _ (laws : BuildLaws) (texts : Texts) (input : List ℕ) (r : Asked) where
       over Verdict.running e t i = absurd (subst IsOver e i)
       over Verdict.stuck e t i = absurd (subst IsOver e i)
 
-  runs-so : (root : Name) → r.work ≡ Work.run root → IsGoing (came texts input r).status →
-      IsRun texts input r (came texts input r)
-  runs-so root w = by_answer (worked texts input r) refl
+  run-is-put : (w : Work) → r.work ≡ w → runs w ≡ true → (B : Built) → HasDerivations texts r B → (o : Outcome) →
+      put input r B w ≡ Ok o → IsRun texts input r o
+  unfolding put
+  run-is-put (Work.check a) q t B h o e = absurd (cc t)
+  run-is-put (Work.core a) q t B h o e = absurd (cc t)
+  run-is-put (Work.code a) q t B h o e = absurd (cc t)
+  run-is-put (Work.run root) q t B h o e =
+      run-of-main root B h (λ R. []) (λ R. ap (λ v. behind_lines v B R) (sym q)) o e
+  run-is-put (Work.gen n) q t B h o e =
+      run-of-main (codes "Main") B h (λ R. counts B R R.verdict) (λ R. ap (λ v. behind_lines v B R) (sym q)) o e
+
+  runs-so : runs r.work ≡ true → IsGoing (came texts input r).status → IsRun texts input r (came texts input r)
+  runs-so t = by_answer (worked texts input r) refl
     where
       by_answer : (a : Answer Outcome) → worked texts input r ≡ a → IsGoing (outcome_of a).status →
           IsRun texts input r (outcome_of a)
       by_answer (Ok o) e i =
-          let g = worked-ok o e in
-          run-of-main root g.build_is (has g.build_is g.built) g.built o
-          (subst (λ (v : Work). put input r g.build_is v ≡ Ok o) w g.put_is)
+          let g = worked-ok o e in run-is-put r.work refl t g.build_is (has g.build_is g.built) o g.put_is
       by_answer (Err s) e i = absurd (stopped-is-not-going s i)
 
 -- ---- the laws, from those of builds
@@ -594,8 +603,7 @@ pub one_of_three_holds : ByBuilds OneOfThree
 one_of_three_holds laws texts input r = three-so laws texts input r
 
 pub runs_are_evaluations_holds : ByBuilds RunsAreEvaluations
-runs_are_evaluations_holds laws texts input r root w =
-    runs-so laws texts input r root w
+runs_are_evaluations_holds laws texts input r t = runs-so laws texts input r t
 
 pub mains_may_run_holds : ByBuilds MainsMayRun
 mains_may_run_holds laws texts root n B u main built none is =

@@ -4,7 +4,7 @@ use Rattle.qtt_base.specs.declared.place.GlobalId.{GlobalId}
 use Rattle.qtt_graph.specs.Graph.{Name}
 use Rattle.qtt_term.specs.Term.{Term}
 use Rattle.qtt_term.specs.Signature.{definition_at}
-use Rattle.qtt_term.specs.FullRun.{Verdict, full}
+use Rattle.qtt_term.specs.FullRun.{Verdict, Run, full}
 use Rattle.qtt_term.specs.TapeDiscipline.{Disciplined, ClosedOnce}
 use Rattle.qtt_term.specs.Environment.{WellFormed, Complete, IsMain}
 use Rattle.qtt_term.specs.Entries.{env}
@@ -19,7 +19,7 @@ use Rattle.qtt_build.specs.Build as builds
 use Rattle.qtt_build.specs.Judged.{DeclaresBuild, RefusesBuild}
 use Rattle.qtt_build.specs.Laws.{StoppedByBudget, FollowsClauses, BuildFailsSo}
 use Rattle.qtt_outcome.specs.Stop.{Stop, no_holes, module_named, main_of, code_of}
-use Rattle.qtt_outcome.specs.Outcome.{Outcome, line, absent_line, texts_for, root_of, worked, outcome_of, run_outcome}
+use Rattle.qtt_outcome.specs.Outcome.{Outcome, line, absent_line, texts_for, root_of, worked, outcome_of, run_outcome, counts}
 
 -- what a request comes to
 abbrev pub came : Texts → List ℕ → Asked → Outcome
@@ -119,6 +119,22 @@ GeneratedLackNone = (texts : Texts) (input : List ℕ) (r : Asked) (n : ℕ) →
     (came texts input r).status ≡ 66 → ⊥
 
 -- ---- runs
+-- the main is run
+abbrev pub runs : Work → Bool
+runs (Work.check a) = false
+runs (Work.core a) = false
+runs (Work.code a) = false
+runs (Work.run a) = true
+runs (Work.gen n) = true
+
+-- what is put behind the lines of a run: nothing, or what of generated modules is counted
+abbrev pub behind_lines : Work → Built → Run → List ℕ
+behind_lines (Work.check a) B R = []
+behind_lines (Work.core a) B R = []
+behind_lines (Work.code a) B R = []
+behind_lines (Work.run a) B R = []
+behind_lines (Work.gen n) B R = counts B R R.verdict
+
 abbrev pub IsOver : Verdict → Type 0
 IsOver Verdict.ended = Unit {0}
 IsOver (Verdict.trapped k) = Unit {0}
@@ -133,14 +149,15 @@ pub record IsRun (texts : Texts) (input : List ℕ) (r : Asked) (o : Outcome) : 
   pub complete : Complete (env built.globals)
   pub main : GlobalId
   pub is_main : IsMain (env built.globals) main
-  pub shows : o ≡ run_outcome (full r.steps (env built.globals) main input) []
+  pub shows : o ≡ run_outcome (full r.steps (env built.globals) main input)
+      (behind_lines r.work built (full r.steps (env built.globals) main input))
   pub disciplined : Disciplined (full r.steps (env built.globals) main input).last.events
   pub closed : IsOver (full r.steps (env built.globals) main input).verdict →
       ClosedOnce (full r.steps (env built.globals) main input).last.events
 
 -- what is run is the full evaluation of main
 abbrev pub RunsAreEvaluations : Type 0
-RunsAreEvaluations = (texts : Texts) (input : List ℕ) (r : Asked) (root : Name) → r.work ≡ Work.run root →
+RunsAreEvaluations = (texts : Texts) (input : List ℕ) (r : Asked) → runs r.work ≡ true →
     IsGoing (came texts input r).status → IsRun texts input r (came texts input r)
 
 -- ---- what may be run

@@ -50,7 +50,7 @@ pub fn generated_lack_none()
     generated_modules_are_there();
 }
 
-/// What is run is the full evaluation of main.
+/// What `run` and `gen` run is the full evaluation of main.
 pub fn runs_are_evaluations()
     ensures { RunsAreEvaluations }
 {

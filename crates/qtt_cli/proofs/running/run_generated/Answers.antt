@@ -46,7 +46,7 @@ returns-in_err-program-clause-runs g c texts =
       is = gen;
       positive = c.args.generation.now.positive;
       bounded = c.args.generation.now.bounded;
-    })) (λ f. never-rises (c.program.ensures.failed.rose f)))
+    })) (λ f. absurd (never-rises (c.program.ensures.failed.rose f))))
 
 pub returns-in_err-went-clause-runs : goal.returns-in_err-went-clause-runs
 returns-in_err-went-clause-runs g c texts =

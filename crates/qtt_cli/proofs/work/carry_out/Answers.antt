@@ -3,7 +3,7 @@ use Rattle.std.proofs.lemmas.Result.{err_from_is_err_and}
 use Rattle.qtt_words.specs.Asked.{Work}
 use Rattle.qtt_words.specs.Requested.{requested, work}
 use Rattle.qtt_cli.specs.Commands.{check_for, core_for, code_for, program_for}
-use Rattle.qtt_cli.specs.Parts.{prints}
+use Rattle.qtt_cli.specs.Parts.{prints, asks_vault}
 use Rattle.qtt_cli.specs.Printed.{Puts}
 use Rattle.qtt_cli.specs.Views.{bytes_of, program_of}
 use Rattle.qtt_cli.proofs.Carried.{carries-stop, carries-put, has-program}
@@ -32,7 +32,7 @@ returns-in_err-check-in-Check-clause-carries g c =
     (carries-stop s r c.requires (check_for root n) bytes_of (λ i. shown)
     (λ t i. shape-check t i r root is) c.check.result e c.in_err-check-in-Check.was
     c.check.ensures.answers (does-nothing (g.O.Sink.content c.args.out.now) (g.T.Tapes.tapes c.args.tapes.now))
-    (λ a. inl (c.check.ensures.absent.rose a)) c.check.ensures.failed.rose)
+    (λ a. inl (c.check.ensures.absent.rose a)) (λ f. (c.check.ensures.failed.rose f, ap asks_vault is)))
 
 pub returns-in_ok-check-in-Check-clause-carries : goal.returns-in_ok-check-in-Check-clause-carries
 returns-in_ok-check-in-Check-clause-carries g c =
@@ -75,7 +75,7 @@ returns-in_err-core-in-Core-clause-carries g c =
     (carries-stop s r c.requires (core_for root n) bytes_of (λ i. shown)
     (λ t i. shape-core t i r root is) c.core.result e c.in_err-core-in-Core.was
     c.core.ensures.answers (does-nothing (g.O.Sink.content c.args.out.now) (g.T.Tapes.tapes c.args.tapes.now))
-    (λ a. inl (c.core.ensures.absent.rose a)) c.core.ensures.failed.rose)
+    (λ a. inl (c.core.ensures.absent.rose a)) (λ f. (c.core.ensures.failed.rose f, ap asks_vault is)))
 
 pub returns-in_ok-core-in-Core-clause-carries : goal.returns-in_ok-core-in-Core-clause-carries
 returns-in_ok-core-in-Core-clause-carries g c =
@@ -119,7 +119,7 @@ returns-in_err-code-in-Code-clause-carries g c =
     (carries-stop s r c.requires (code_for root n) bytes_of (λ i. shown)
     (λ t i. shape-code t i r root is) c.code.result e c.in_err-code-in-Code.was
     c.code.ensures.answers (does-nothing (g.O.Sink.content c.args.out.now) (g.T.Tapes.tapes c.args.tapes.now))
-    (λ a. inl (c.code.ensures.absent.rose a)) c.code.ensures.failed.rose)
+    (λ a. inl (c.code.ensures.absent.rose a)) (λ f. (c.code.ensures.failed.rose f, ap asks_vault is)))
 
 pub returns-in_ok-code-in-Code-clause-carries : goal.returns-in_ok-code-in-Code-clause-carries
 returns-in_ok-code-in-Code-clause-carries g c =
@@ -163,7 +163,7 @@ returns-in_err-program-in-Run-clause-carries g c =
     (carries-stop s r c.requires (program_for root c.args.request.now.budget) program_of (λ i q. Ok (ran r i q))
     (λ t i. shape-run t i r root is) c.program.result e c.in_err-program-in-Run.was
     c.program.ensures.answers (does-nothing (g.O.Sink.content c.args.out.now) (g.T.Tapes.tapes c.args.tapes.now))
-    (λ a. inl (c.program.ensures.absent.rose a)) c.program.ensures.failed.rose)
+    (λ a. inl (c.program.ensures.absent.rose a)) (λ f. (c.program.ensures.failed.rose f, ap asks_vault is)))
 
 pub returns-in_err-run-in-Run-clause-carries : goal.returns-in_err-run-in-Run-clause-carries
 returns-in_err-run-in-Run-clause-carries g c =
