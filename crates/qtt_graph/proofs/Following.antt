@@ -1,10 +1,10 @@
 -- Ranks found by following imports.
-use Rattle.std.proofs.Common.{◌≡◌, ℕ, zero, suc, ◌+◌, ◌-◌, ◌≤◌, ◌<◌, Bool, true, false, cond, List, [], ◌∷◌, ◌++◌, map, length, take, slice_index_or, slice_set, Option, Some, None, refl, sym, ap, ◌∙◌, subst, ◌⊎◌, inl, inr, arith, Less, Equal, Greater}
+use Rattle.std.proofs.Common.{◌≡◌, ℕ, zero, suc, ◌+◌, ◌-◌, ◌≤◌, ◌<◌, Bool, true, false, cond, List, [], ◌∷◌, ◌++◌, map, length, take, slice_index_or, Option, Some, None, refl, sym, ap, ◌∙◌, subst, ◌⊎◌, inl, inr, arith, Less, Equal, Greater}
 use Rattle.std.specs.Prelude.{◌==◌, max, option_map, filter, find}
 use Rattle.std.specs.List.{AllByRecursion}
-use Rattle.std.proofs.lemmas.List.{length-map, length-set, take_more, get_or-set_same, get_or-set_other}
+use Rattle.std.proofs.lemmas.List.{length-map, take_more}
 use Rattle.std.specs.Ordering.{ord_max, nat_cmp, is_lt}
-use Rattle.std.proofs.lemmas.Bool.{cases_eq, cases_lt, lt-ltb, le-ltb}
+use Rattle.std.proofs.lemmas.Bool.{cases_lt, lt-ltb, le-ltb}
 use mathlib.Core.Path.{ap₂}
 use Rattle.qtt_syntax.specs.declared.module.Import.{Import}
 use Rattle.qtt_graph.specs.Graph.{Name, Header, Graph, counts, header_name, import_name, imports_in, below, names, same_name, is_among}
@@ -13,11 +13,10 @@ use Rattle.qtt_graph.specs.Ring.Leads.{by_import, onward}
 use Rattle.qtt_graph.specs.Ranks.{place_among, one_above, rank_within, rank}
 use Rattle.qtt_graph.specs.Laws.{Closed}
 use Rattle.qtt_graph.specs.Modules.{put_found, places_imported, rows_of, name_at, ArePlaces}
-use Rattle.qtt_graph.specs.Ranking.{Known}
 use Rattle.qtt_graph.proofs.Among.{none≢some, some-injective, same-is, same-self, in-head, in-tail, in-cases, Once, once-fits}
 use Rattle.qtt_graph.proofs.NamePlaces.{in-at, map-behind}
 use Rattle.qtt_graph.proofs.ByName.{there-placed}
-use Rattle.qtt_graph.proofs.Ranked.{joined, joined-parts, one_above-all, one_above-reached, steps_more, Along, along-leads, along-named}
+use Rattle.qtt_graph.proofs.Ranked.{joined, joined-parts, one_above-all, one_above-reached, one_step_more, steps_more, Along, along-leads, along-named}
 
 -- ---- a module has one rank
 abbrev pub Ranks : Graph → Name → ℕ → Type 0
@@ -249,7 +248,7 @@ row-at f (k ∷ ks) zero d h = refl
 row-at f (k ∷ ks) (suc i) d h = row-at f ks i d (omega (arith, h))
 
 -- the row of a module has the places of those that it imports
-row-is : (g : Graph) → Closed g → Once (names g) → (i : ℕ) → i < length g →
+pub row-is : (g : Graph) → Closed g → Once (names g) → (i : ℕ) → i < length g →
     Named (names g) (slice_index_or (rows_of g) i []) (below g (name_at g i))
 row-is [] closed o i h = absurd (omega (arith, h))
 row-is (k ∷ ks) closed o i h =
@@ -279,11 +278,26 @@ named-at ns (p ∷ row) (suc i) l =
 pub at-place : (g : Graph) (p : ℕ) → p < length g → is_among (names g) (name_at g p) ≡ true
 at-place g p l = in-at (names g) p (omega (arith, l, length-map g header_name))
 
-pub unranked-import : (g : Graph) (row : List ℕ) (a : Name) (i n : ℕ) → ArePlaces g row (below g a) →
+pub row-imports : (g : Graph) (row : List ℕ) (a : Name) (i : ℕ) → ArePlaces g row (below g a) → i < length row →
+    Imports g a (name_at g (slice_index_or row i 0))
+row-imports g row a i named l =
+    subst (λ bs. is_among bs (name_at g (slice_index_or row i 0)) ≡ true) named.named (named-at (names g) row i l)
+
+unranked-import : (g : Graph) (row : List ℕ) (a : Name) (i n : ℕ) → ArePlaces g row (below g a) →
     i < length row → rank_within g n (name_at g (slice_index_or row i 0)) ≡ None → rank_within g (suc n) a ≡ None
 unranked-import g row a i n named l e =
     one_above-unranked (rank_within g n) (below g a) (name_at g (slice_index_or row i 0))
-    (subst (λ bs. is_among bs (name_at g (slice_index_or row i 0)) ≡ true) named.named (named-at (names g) row i l)) e
+    (row-imports g row a i named l) e
+
+-- one import without a rank leaves a module without one
+pub unranked : (g : Graph) (row : List ℕ) (a : Name) (i : ℕ) → ArePlaces g row (below g a) → i < length row →
+    rank g (name_at g (slice_index_or row i 0)) ≡ None → rank g a ≡ None
+unranked g row a i named l e = by_rank (rank g a) refl
+  where
+    by_rank : (o : Option ℕ) → rank g a ≡ o → rank g a ≡ None
+    by_rank None d = d
+    by_rank (Some r) d =
+        absurd (none≢some (sym (unranked-import g row a i (length g) named l e) ∙ one_step_more g (length g) a r d))
 
 pub rank-below : (g : Graph) → Closed g → (p r : ℕ) → p < length g → rank g (name_at g p) ≡ Some r → r < length g
 rank-below g closed p r l e = rank-fits g closed (name_at g p) r (at-place g p l) (length g, e)
@@ -307,22 +321,6 @@ rank-done g closed row p r l named e =
     rank-of_imports g closed (name_at g p) r (at-place g p l)
     (ap (λ bs. one_above (map (rank g) bs)) (sym named.named) ∙
     ap one_above (map-map (rank g) (name_at g) row) ∙ e)
-
-pub known-set : (g : Graph) (known : List (Option ℕ)) (p r : ℕ) → p < length known →
-    rank g (name_at g p) ≡ Some r → Known g known → Known g (slice_set known p (Some r))
-known-set g known p r l e k = record {
-  all = length-set known p (Some r) ∙ k.all;
-  ranks = λ i s o h d. by_case i s o (subst (λ n. i < n) (length-set known p (Some r)) h) d (cases_eq i p);
-}
-  where
-    by_case : (i s : ℕ) (o : Option ℕ) → i < length known → slice_index_or (slice_set known p (Some r)) i o ≡
-        Some s → (i ≡ p) ⊎ (i ≡ p → ⊥) →
-        rank g (name_at g i) ≡ Some s
-    by_case i s o h d (inl same) =
-        let there = subst (λ j. slice_index_or (slice_set known p (Some r)) j o ≡ Some s) same d in
-        let is = some-injective (sym (get_or-set_same known p (Some r) o l) ∙ there) in
-        ap (λ j. rank g (name_at g j)) same ∙ e ∙ ap Some is
-    by_case i s o h d (inr other) = k.ranks i s o h (sym (get_or-set_other known p i (Some r) o other) ∙ d)
 
 -- ---- the row of a module in the code's lists
 pub mapped : {A : Type 0} (items : A → List ℕ) (rows : List A) (i : ℕ) (d : A) → i < length rows →

@@ -1,5 +1,5 @@
 -- Places by their ranks are the modules by theirs.
-use Rattle.std.proofs.Common.{◌≡◌, ℕ, zero, suc, ◌+◌, ◌<◌, Bool, true, false, cond, List, [], ◌∷◌, ◌++◌, map, length, replicate, take, slice_index_or, slice_set, refl, sym, ap, ◌∙◌, subst, arith}
+use Rattle.std.proofs.Common.{◌≡◌, ℕ, zero, suc, ◌+◌, ◌<◌, Bool, true, false, cond, List, [], ◌∷◌, ◌++◌, map, length, replicate, take, slice_index_or, slice_set, Option, Some, None, refl, sym, ap, ◌∙◌, subst, arith}
 use Rattle.std.specs.Prelude.{◌==◌, filter, unwrap_or}
 use Rattle.std.specs.Option.{option_map_or}
 use Rattle.std.proofs.lemmas.Bool.{ne_eqb, eq-eqb}
@@ -31,41 +31,50 @@ nothing-behind : (qs : List ℕ) → qs ++ [] ≡ qs
 nothing-behind [] = refl
 nothing-behind (q ∷ qs) = ap (λ rs. q ∷ rs) (nothing-behind qs)
 
-abbrev pub rank_at : List ℕ → ℕ → ℕ
-rank_at ranks p = slice_index_or ranks p 0
+abbrev pub rank_at : List (Option ℕ) → ℕ → Option ℕ
+rank_at ranks p = slice_index_or ranks p None
 
-other-rank : (ranks ps : List ℕ) (p r : ℕ) → (rank_at ranks p ≡ r → ⊥) →
+has-rank : (ranks : List (Option ℕ)) (p r s : ℕ) → rank_at ranks p ≡ Some s → has ranks r p ≡ (s == r)
+has-rank ranks p r s e = ap (λ o. option_map_or (λ n. n == r) o false) e
+
+other-rank : (ranks : List (Option ℕ)) (ps : List ℕ) (p r : ℕ) → has ranks r p ≡ false →
     filter (has ranks r) (ps ++ p ∷ []) ≡ filter (has ranks r) ps
 other-rank ranks ps p r other =
-    filter-behind (has ranks r) ps p ∙
-    ap (λ t. filter (has ranks r) ps ++ cond t (p ∷ []) []) (ne_eqb (rank_at ranks p) r other) ∙
+    filter-behind (has ranks r) ps p ∙ ap (λ t. filter (has ranks r) ps ++ cond t (p ∷ []) []) other ∙
     nothing-behind (filter (has ranks r) ps)
 
-this-rank : (ranks ps : List ℕ) (p r : ℕ) → rank_at ranks p ≡ r →
+this-rank : (ranks : List (Option ℕ)) (ps : List ℕ) (p r : ℕ) → has ranks r p ≡ true →
     filter (has ranks r) (ps ++ p ∷ []) ≡ filter (has ranks r) ps ++ p ∷ []
 this-rank ranks ps p r is =
-    filter-behind (has ranks r) ps p ∙
-    ap (λ t. filter (has ranks r) ps ++ cond t (p ∷ []) []) (eq-eqb (rank_at ranks p) r is)
+    filter-behind (has ranks r) ps p ∙ ap (λ t. filter (has ranks r) ps ++ cond t (p ∷ []) []) is
 
-above-it : (ranks ps : List ℕ) (p r n : ℕ) → rank_at ranks p < r →
+above-it : (ranks : List (Option ℕ)) (ps : List ℕ) (p s r n : ℕ) → rank_at ranks p ≡ Some s → s < r →
     levels ranks (ps ++ p ∷ []) r n ≡ levels ranks ps r n
-above-it ranks ps p r zero l = refl
-above-it ranks ps p r (suc n) l =
-    ap₂ (λ q qs. q ∷ qs) (other-rank ranks ps p r (λ e. omega (arith, l, e)))
-    (above-it ranks ps p (suc r) n (omega (arith, l)))
+above-it ranks ps p s r zero e l = refl
+above-it ranks ps p s r (suc n) e l =
+    ap₂ (λ q qs. q ∷ qs) (other-rank ranks ps p r (has-rank ranks p r s e ∙ ne_eqb s r (λ d. omega (arith, l, d))))
+    (above-it ranks ps p s (suc r) n e (omega (arith, l)))
 
 abbrev put_behind : List (List ℕ) → ℕ → ℕ → List (List ℕ)
 put_behind ls i p = slice_set ls i (slice_index_or ls i [] ++ p ∷ [])
 
-pub levels-step : (ranks ps : List ℕ) (p r n i : ℕ) → rank_at ranks p ≡ r + i → i < n →
-    levels ranks (ps ++ p ∷ []) r n ≡ put_behind (levels ranks ps r n) i p
-levels-step ranks ps p r zero i is l = absurd (omega (arith, l))
-levels-step ranks ps p r (suc n) zero is l =
-    ap₂ (λ q qs. q ∷ qs) (this-rank ranks ps p r (omega (arith, is)))
-    (above-it ranks ps p (suc r) n (omega (arith, is)))
-levels-step ranks ps p r (suc n) (suc i) is l =
-    ap₂ (λ q qs. q ∷ qs) (other-rank ranks ps p r (λ e. omega (arith, is, e)))
-    (levels-step ranks ps p (suc r) n i (omega (arith, is)) (omega (arith, l)))
+pub levels-step : (ranks : List (Option ℕ)) (ps : List ℕ) (p s r n i : ℕ) → rank_at ranks p ≡ Some s → s ≡ r + i →
+    i < n → levels ranks (ps ++ p ∷ []) r n ≡ put_behind (levels ranks ps r n) i p
+levels-step ranks ps p s r zero i e is l = absurd (omega (arith, l))
+levels-step ranks ps p s r (suc n) zero e is l =
+    ap₂ (λ q qs. q ∷ qs) (this-rank ranks ps p r (has-rank ranks p r s e ∙ eq-eqb s r (omega (arith, is))))
+    (above-it ranks ps p s (suc r) n e (omega (arith, is)))
+levels-step ranks ps p s r (suc n) (suc i) e is l =
+    ap₂ (λ q qs. q ∷ qs) (other-rank ranks ps p r (has-rank ranks p r s e ∙ ne_eqb s r (λ d. omega (arith, is, d))))
+    (levels-step ranks ps p s (suc r) n i e (omega (arith, is)) (omega (arith, l)))
+
+-- a place without a rank is in no level
+pub levels-kept : (ranks : List (Option ℕ)) (ps : List ℕ) (p r n : ℕ) → rank_at ranks p ≡ None →
+    levels ranks (ps ++ p ∷ []) r n ≡ levels ranks ps r n
+levels-kept ranks ps p r zero e = refl
+levels-kept ranks ps p r (suc n) e =
+    ap₂ (λ q qs. q ∷ qs) (other-rank ranks ps p r (ap (λ o. option_map_or (λ n. n == r) o false) e))
+    (levels-kept ranks ps p (suc r) n e)
 
 -- ---- the modules by rank
 placed-back : (g : Graph) (a : Name) → is_among (names g) a ≡ true →
@@ -77,14 +86,14 @@ placed-back g a i =
     let long : length (names g) ≡ length g = length-map g header_name in
     (ap (name_at g) is ∙ at.0, omega (arith, is, at.1, long))
 
-same-test : (g : Graph) (ranks : List ℕ) (r : ℕ) (a : Name) → AreRanks g ranks → is_among (names g) a ≡ true →
-    has ranks r (place g a) ≡ has_rank g r a
+same-test : (g : Graph) (ranks : List (Option ℕ)) (r : ℕ) (a : Name) → AreRanks g ranks →
+    is_among (names g) a ≡ true → has ranks r (place g a) ≡ has_rank g r a
 same-test g ranks r a each i =
     let back = placed-back g a i in
-    let is = sym (ap (rank g) back.0) ∙ each.each (place g a) 0 back.1 in
+    let is = sym (ap (rank g) back.0) ∙ each.each (place g a) None back.1 in
     sym (ap (λ o. option_map_or (λ n. n == r) o false) is)
 
-filtered : (g : Graph) (ranks : List ℕ) (r : ℕ) → AreRanks g ranks → (bs : List Name) →
+filtered : (g : Graph) (ranks : List (Option ℕ)) (r : ℕ) → AreRanks g ranks → (bs : List Name) →
     ((b : Name) → is_among bs b ≡ true → is_among (names g) b ≡ true) →
     filter (has ranks r) (map (place g) bs) ≡ map (place g) (filter (has_rank g r) bs)
 filtered g ranks r each [] there = refl
@@ -116,7 +125,7 @@ map-put : {A B : Type 0} (f : A → B) (xs : List A) (more : List (List A)) →
 map-put f [] more = refl
 map-put f (x ∷ xs) more = refl
 
-levels-ranked : (g : Graph) (ranks : List ℕ) → AreRanks g ranks → (r n : ℕ) →
+levels-ranked : (g : Graph) (ranks : List (Option ℕ)) → AreRanks g ranks → (r n : ℕ) →
     filled (levels ranks (order_of g) r n) ≡ map (map (place g)) (by_rank g r n)
 levels-ranked g ranks each r zero = refl
 levels-ranked g ranks each r (suc n) =
@@ -124,7 +133,7 @@ levels-ranked g ranks each r (suc n) =
     (levels-ranked g ranks each (suc r) n) ∙
     sym (map-put (place g) (of_rank g r) (by_rank g (suc r) n))
 
-pub filled-ranked : (g : Graph) (ranks : List ℕ) → AreRanks g ranks →
+pub filled-ranked : (g : Graph) (ranks : List (Option ℕ)) → AreRanks g ranks →
     filled (levels ranks (order_of g) 0 (length g)) ≡ ranked g
 filled-ranked g ranks each = levels-ranked g ranks each 0 (length g)
 
@@ -136,11 +145,11 @@ whatever-else (x ∷ xs) zero d e l = refl
 whatever-else (x ∷ xs) (suc i) d e l = whatever-else xs i d e (omega (arith, l))
 
 -- ---- levels as places are put in
-pub levels-empty : (ranks : List ℕ) (r n : ℕ) → levels ranks [] r n ≡ replicate n []
+pub levels-empty : (ranks : List (Option ℕ)) (r n : ℕ) → levels ranks [] r n ≡ replicate n []
 levels-empty ranks r zero = refl
 levels-empty ranks r (suc n) = ap (λ ls. [] ∷ ls) (levels-empty ranks (suc r) n)
 
-pub levels-length : (ranks ps : List ℕ) (r n : ℕ) → length (levels ranks ps r n) ≡ n
+pub levels-length : (ranks : List (Option ℕ)) (ps : List ℕ) (r n : ℕ) → length (levels ranks ps r n) ≡ n
 levels-length ranks ps r zero = refl
 levels-length ranks ps r (suc n) = ap suc (levels-length ranks ps (suc r) n)
 
@@ -158,21 +167,19 @@ order-at g order i is l =
     subst (λ ps. slice_index_or ps i 0 < length g) (sym is)
     (placed-at g (in_byte_order (names g)) i (λ b j. in_order-among b (names g) j) (omega (arith, l, long)))
 
-pub rank-at : (g : Graph) → Closed g → (ranks : List ℕ) (p : ℕ) → AreRanks g ranks → p < length g →
-    rank_at ranks p < length g
-rank-at g closed ranks p each l = rank-below g closed p (rank_at ranks p) l (each.each p 0 l)
+pub rank-at : (g : Graph) → Closed g → (ranks : List (Option ℕ)) (p r : ℕ) → AreRanks g ranks → p < length g →
+    rank_at ranks p ≡ Some r → r < length g
+rank-at g closed ranks p r each l e = rank-below g closed p r l (each.each p None l ∙ e)
 
 -- the level of a place with it behind
-pub put-step : {A : Type 0} (items : A → List ℕ) (before : List A) (level : A) (ranks order : List ℕ) (k n : ℕ)
-    (held : A) (number : ℕ) → k < length order → rank_at ranks (slice_index_or order k 0) < n →
-    map items before ≡ levels ranks (take k order) 0 n →
-    held ≡ slice_index_or before (rank_at ranks (slice_index_or order k 0)) held → number ≡ slice_index_or order k 0 →
+pub put-step : {A : Type 0} (items : A → List ℕ) (before : List A) (level : A) (ranks : List (Option ℕ))
+    (order : List ℕ) (k n r : ℕ) (held : A) (number : ℕ) → k < length order →
+    rank_at ranks (slice_index_or order k 0) ≡ Some r → r < n → map items before ≡ levels ranks (take k order) 0 n →
+    held ≡ slice_index_or before r held → number ≡ slice_index_or order k 0 →
     items level ≡ items held ++ number ∷ [] →
-    map items (slice_set before (rank_at ranks (slice_index_or order k 0)) level) ≡ levels ranks (take
-    (k + 1) order) 0 n
-put-step items before level ranks order k n held number l low so there-held is-number is =
+    map items (slice_set before r level) ≡ levels ranks (take (k + 1) order) 0 n
+put-step items before level ranks order k n r held number l e low so there-held is-number is =
     let p = slice_index_or order k 0 in
-    let r = rank_at ranks p in
     let there : r < length before =
     subst (λ m. r < m) (sym (sym (length-map before items) ∙ ap length so ∙ levels-length ranks
     (take k order) 0 n)) low in
@@ -181,7 +188,15 @@ put-step items before level ranks order k n held number l low so there-held is-n
     ap (λ q. q ++ p ∷ []) (ap items there-held ∙ sym (mapped items before r held there))) ∙
     ap (λ ls. put_behind ls r p) so ∙
     sym (ap (λ ps. levels ranks ps 0 n) (take_more order k 0 l) ∙
-    levels-step ranks (take k order) p 0 n r (omega arith) low)
+    levels-step ranks (take k order) p r 0 n r e (omega arith) low)
+
+-- a place that has no rank is passed over
+pub pass-step : (ranks : List (Option ℕ)) (order : List ℕ) (k n : ℕ) → k < length order →
+    rank_at ranks (slice_index_or order k 0) ≡ None →
+    levels ranks (take k order) 0 n ≡ levels ranks (take (k + 1) order) 0 n
+pass-step ranks order k n l e =
+    sym (ap (λ ps. levels ranks ps 0 n) (take_more order k 0 l) ∙
+    levels-kept ranks (take k order) (slice_index_or order k 0) 0 n e)
 
 -- what is not empty is what is put in front
 abbrev pub is_filled : List ℕ → Bool

@@ -7,6 +7,9 @@ mod ByName
 mod Following
 mod Levelled
 mod Nearer
-mod Widening
-mod Told
+mod Ways
+mod Turning
+mod Visiting
+mod Searching
+mod Whole
 mod Rows

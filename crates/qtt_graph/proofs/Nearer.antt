@@ -175,7 +175,7 @@ no-map a [] e = refl
 no-map a (w ∷ ws) e = absurd (cc e)
 
 -- names that differ stand at one place each
-one-place : (ns : List Name) (i j : ℕ) → Once ns → i < length ns → j < length ns →
+pub one-place : (ns : List Name) (i j : ℕ) → Once ns → i < length ns → j < length ns →
     slice_index_or ns i [] ≡ slice_index_or ns j [] → i ≡ j
 one-place [] i j o l k e = absurd (omega (arith, l))
 one-place (n ∷ ns) zero zero o l k e = refl
@@ -237,7 +237,7 @@ single-first a b ns w e = by_list (filter (same_name b) ns) e
     by_list [] e = absurd (none≢some e)
     by_list (m ∷ ms) e = sym (some-injective e)
 
-at-value : (m : ℕ) (o : Option ℕ) → is_at m o ≡ true → o ≡ Some m
+pub at-value : (m : ℕ) (o : Option ℕ) → is_at m o ≡ true → o ≡ Some m
 at-value m None e = absurd (cc e)
 at-value m (Some j) e = ap Some (eqb-true j m e)
 

@@ -166,7 +166,7 @@ listed-leads g (suc n) a b p =
     onward q.1 (listed-leads g n q.0 b q.2)
 
 -- ---- the ring
-back-leads : (g : Graph) (k n : ℕ) (a : Name) (w : List Name) → way_back g k n a ≡ Some w → Leads g a a
+pub back-leads : (g : Graph) (k n : ℕ) (a : Name) (w : List Name) → way_back g k n a ≡ Some w → Leads g a a
 back-leads g k zero a w e = absurd (none≢some e)
 back-leads g k (suc n) a w e = by_first (back-leads g (suc k) n a w) (first_of (ways g k a a)) refl
   where

@@ -1,17 +1,25 @@
--- Ranks that are known so far.
-use Rattle.std.specs.Prelude.{◌≡◌, ◌<◌, ℕ, List, length, Option, Some, None}
-use Rattle.std.specs.List.{slice_index_or}
+-- Ranks that are known while imports are followed.
+use Rattle.std.specs.Prelude.{◌≡◌, ◌<◌, ◌⊎◌, ℕ, List, length, Option, Some, None, is_none}
+use Rattle.std.specs.List.{count_by, slice_index_or}
 use Rattle.qtt_graph.specs.Graph.{Graph}
 use Rattle.qtt_graph.specs.Modules.{name_at}
-use Rattle.qtt_graph.specs.Ranks.{rank, rank_within}
+use Rattle.qtt_graph.specs.Ranks.{rank}
+use Rattle.qtt_graph.specs.Ring.{Leads}
 
--- of each module its rank or nothing
-pub record Known (g : Graph) (known : List (Option ℕ)) : Type 0 where
+-- of each module that was come to its rank, or that it has none: but for those in P, of which this may be unknown
+pub record Known (g : Graph) (P : ℕ → Type 0) (known : List (Option (Option ℕ))) : Type 0 where
   pub all : length known ≡ length g
-  pub ranks : (i r : ℕ) (o : Option ℕ) → i < length known → slice_index_or known i o ≡ Some r → rank g
-      (name_at g i) ≡ Some r
+  pub ranks : (i r : ℕ) → i < length g → slice_index_or known i None ≡ Some (Some r) → rank g (name_at g i) ≡ Some r
+  pub without : (i : ℕ) → i < length g → slice_index_or known i None ≡ Some None → (rank g (name_at g i) ≡ None) ⊎ P i
 
--- what is found by following so many imports: the rank, or that it takes more
-abbrev pub Found : Graph → ℕ → ℕ → Option ℕ → Type 0
-Found g steps i (Some r) = rank g (name_at g i) ≡ Some r
-Found g steps i None = rank_within g steps (name_at g i) ≡ None
+-- a module's imports lead to the one at place p
+abbrev pub LeadsOn : Graph → ℕ → ℕ → Type 0
+LeadsOn g p i = Leads g (name_at g i) (name_at g p)
+
+-- a module was come to, and no rank is known of it
+abbrev pub HasNone : List (Option (Option ℕ)) → ℕ → Type 0
+HasNone known i = slice_index_or known i None ≡ Some None
+
+-- how many modules were not come to
+abbrev pub unvisited : List (Option (Option ℕ)) → ℕ
+unvisited known = count_by (λ o. is_none o) known

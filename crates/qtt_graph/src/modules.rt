@@ -1,12 +1,21 @@
 //! The modules of a build by their places in the list of texts.
 
-ghost use Rattle.std.specs.Prelude.{◌≡◌, ◌<◌, [], length, map, replicate, IfOk, IsTrue};
+ghost use Rattle.std.specs.Prelude.{◌≡◌, ◌<◌, ◌≤◌, [], length, map, replicate, IfOk, IsTrue};
 ghost use Rattle.qtt_graph.specs.Graph.{below, names, all_differ, is_whole};
 ghost use Rattle.qtt_graph.specs.Laws.{Closed};
-ghost use Rattle.qtt_graph.specs.Ranks.{ranked};
-ghost use Rattle.qtt_graph.specs.Ranking.{Known, Found};
-ghost use Rattle.qtt_graph.specs.Levels.{AreRanks, AllRanked};
-ghost use Rattle.qtt_graph.specs.Modules.{graph_of, rows_of, order_of, name_at, ArePlaces};
+ghost use Rattle.qtt_graph.specs.Ranks.{rank, ranked};
+ghost use Rattle.qtt_graph.specs.Ranking.{Known, LeadsOn, HasNone, unvisited};
+ghost use Rattle.qtt_graph.specs.Levels.{AreRanks};
+ghost use Rattle.qtt_graph.specs.Modules.{
+  graph_of,
+  rows_of,
+  order_of,
+  name_at,
+  ArePlaces,
+  AreWithin,
+  AreTurned,
+  AreImporters,
+};
 
 use crate::places::Places;
 use qtt_base::{MemoryError, Name};
@@ -19,11 +28,15 @@ pub struct Modules<'t> {
     texts: &'t [ModuleText],
     /// Those that each imports, in text order.
     below: Vec<Vec<usize>>,
+    /// Those that import each.
+    above: Vec<Vec<usize>>,
     /// In byte order of their names.
     order: Vec<usize>,
     ghost differ: { IsTrue (all_differ (names (graph_of texts.now))) },
     ghost closed: { Closed (graph_of texts.now) },
     ghost imports: { map (λ row. row.items) below.items ≡ rows_of (graph_of texts.now) },
+    ghost importers: { AreTurned (map (λ row. row.items) below.items)
+        (map (λ row. row.items) above.items) },
     ghost ordered: { order.items ≡ order_of (graph_of texts.now) },
 }
 
@@ -37,10 +50,12 @@ impl<'t> Modules<'t> {
         for text in texts {
             below.push(places.all_imported(alloc, &text.imports)?)?;
         }
+        let above = turned(alloc, &below)?;
         let order = places.in_order(alloc)?;
         Ok(Modules {
             texts,
             below,
+            above,
             order,
         })
     }
@@ -74,55 +89,95 @@ impl<'t> Modules<'t> {
         &self.below[place]
     }
 
-    /// The rank of a module, or nothing where so many imports lead on from it.
-    #[cycle(rank)]
-    fn rank(&self, known: &mut Vec<Option<usize>>, place: usize, steps: usize) -> Option<usize>
+    /// The places of the modules that import the one at a place.
+    pub fn importers(&self, place: usize) -> &[usize]
         requires there { place < length self.now.texts.now }
-        requires known { Known (graph_of self.now.texts.now) known.old.items }
-        ensures known { Known (graph_of self.now.texts.now) known.new.items }
-        ensures found { Found (graph_of self.now.texts.now) steps place result }
+        ensures { AreImporters (graph_of self.now.texts.now) place result.now }
     {
-        if let Some(rank) = known[place] {
-            return Some(rank);
+        &self.above[place]
+    }
+
+    /// The rank of a module, or nothing where it has none. While its imports are followed none is
+    /// known of it: an import that leads back to it has none.
+    #[cycle(rank)]
+    fn rank(&self, known: &mut Vec<Option<Option<usize>>>, place: usize) -> Option<usize>
+        requires there { place < length self.now.texts.now }
+        requires known { Known (graph_of self.now.texts.now)
+            (LeadsOn (graph_of self.now.texts.now) place) known.old.items }
+        ensures known { Known (graph_of self.now.texts.now)
+            (HasNone known.old.items) known.new.items }
+        ensures fewer { unvisited known.new.items ≤ unvisited known.old.items }
+        ensures found { result ≡ rank (graph_of self.now.texts.now)
+            (name_at (graph_of self.now.texts.now) place) }
+    {
+        if let Some(found) = known[place] {
+            return found;
         }
-        if steps == 0 {
-            return None;
-        }
+        known[place] = Some(None);
         let mut rank = 0;
         for below in self.imports(place) {
-            let next = self.rank(known, *below, steps - 1)?;
+            let next = self.rank(known, *below)?;
             rank = rank.max(next + 1);
         }
-        known[place] = Some(rank);
+        known[place] = Some(Some(rank));
         Some(rank)
     }
-    /// The rank of each module, or nothing where one of them has none.
-    pub fn ranks(&self, alloc: Global) -> Result<Option<Vec<usize>>, MemoryError>
-        ensures { IfOk result (λ r. AllRanked (graph_of self.now.texts.now) r) }
+    /// The rank of each module, or nothing where it has none.
+    pub fn ranks(&self, alloc: Global) -> Result<Vec<Option<usize>>, MemoryError>
+        ensures { IfOk result (λ ranks. AreRanks (graph_of self.now.texts.now) ranks.items) }
     {
         let mut known = vec![in alloc; None; self.texts.len()]?;
         let mut ranks = Vec::with_capacity(alloc, self.texts.len())?;
         for place in 0..self.texts.len() {
-            match self.rank(&mut known, place, self.texts.len()) {
-                Some(rank) => ranks.push(rank)?,
-                None => return Ok(None),
-            }
+            ranks.push(self.rank(&mut known, place))?;
         }
-        Ok(Some(ranks))
+        Ok(ranks)
     }
     /// The places of the modules of each rank, within a rank in byte order of their names.
-    pub fn by_rank(&self, alloc: Global, ranks: &Vec<usize>) -> Result<Vec<Vec<u32>>, MemoryError>
+    pub fn by_rank(
+        &self,
+        alloc: Global,
+        ranks: &Vec<Option<usize>>,
+    ) -> Result<Vec<Vec<u32>>, MemoryError>
         requires ranks { AreRanks (graph_of self.now.texts.now) ranks.now.items }
         ensures { IfOk result (λ found. map (λ level. level.items) found.items ≡
             ranked (graph_of self.now.texts.now)) }
     {
         let mut levels = empty_levels(alloc, self.texts.len())?;
         for place in &self.order {
-            levels[ranks[*place]].push(number(*place)?)?;
+            if let Some(rank) = ranks[*place] {
+                levels[rank].push(number(*place)?)?;
+            }
         }
         levels.retain(|level| !level.is_empty());
         Ok(levels)
     }
+}
+
+/// For each module, those that import it.
+fn turned(alloc: Global, below: &[Vec<usize>]) -> Result<Vec<Vec<usize>>, MemoryError>
+    requires within { AreWithin (map (λ row. row.items) below.now) }
+    ensures { IfOk result (λ above. AreTurned (map (λ row. row.items) below.now)
+        (map (λ row. row.items) above.items)) }
+{
+    let mut above = empty_rows(alloc, below.len())?;
+    for (place, row) in below.iter().enumerate() {
+        for target in row {
+            above[*target].push(place)?;
+        }
+    }
+    Ok(above)
+}
+
+/// So many rows without places.
+fn empty_rows(alloc: Global, count: usize) -> Result<Vec<Vec<usize>>, MemoryError>
+    ensures { IfOk result (λ rows. map (λ row. row.items) rows.items ≡ replicate count []) }
+{
+    let mut rows = Vec::with_capacity(alloc, count)?;
+    for _row in 0..count {
+        rows.push(Vec::new(alloc))?;
+    }
+    Ok(rows)
 }
 
 /// So many levels without places.

@@ -20,12 +20,10 @@ pub fn ranks(alloc: Global, texts: &[ModuleText]) -> Result<Vec<Vec<u32>>, Graph
     ensures { IsRanking (graph_of texts.now) result }
 {
     let modules = Modules::new(alloc, texts)?;
-    if let Some(ranks) = modules.ranks(alloc)? {
-        return Ok(modules.by_rank(alloc, &ranks)?);
-    }
-    match modules.ring(alloc)? {
+    let ranks = modules.ranks(alloc)?;
+    match modules.ring(alloc, &ranks)? {
         Some(way) => Err(GraphError::Cycle(way)),
-        None => unreachable!(),
+        None => Ok(modules.by_rank(alloc, &ranks)?),
     }
 }
 

@@ -1,8 +1,17 @@
 //! The ring of imports that is told.
 
-ghost use Rattle.std.specs.Prelude.{◌≡◌, ◌<◌, ◌+◌, false, length, option_map, IfOk};
-ghost use Rattle.qtt_graph.specs.Modules.{graph_of, name_at};
-ghost use Rattle.qtt_graph.specs.Near.{Near, Stepped, AllBelow, IsAt, IsFirstWay, goes_on_from};
+ghost use Rattle.std.specs.Prelude.{◌≡◌, ◌<◌, length, option_map, IfOk};
+ghost use Rattle.qtt_graph.specs.Modules.{graph_of, name_at, IsWithin};
+ghost use Rattle.qtt_graph.specs.Levels.{AreRanks};
+ghost use Rattle.qtt_graph.specs.Near.{
+  Near,
+  Widened,
+  Stepped,
+  IsAt,
+  IsFirstWay,
+  imports_one,
+  goes_on_from,
+};
 ghost use Rattle.qtt_graph.specs.Ring.{back, ring as told};
 
 use crate::modules::Modules;
@@ -43,36 +52,46 @@ impl<'t> Modules<'t> {
         }
         None
     }
-    /// Notes the modules whose shortest way to `target` has `count + 1` imports, and tells whether
-    /// there are any.
-    fn widen(&self, near: &mut Vec<Option<usize>>, target: usize, count: usize) -> bool
-        requires there { target < length self.now.texts.now }
-        requires near { Near (graph_of self.now.texts.now)
-            (name_at (graph_of self.now.texts.now) target) count near.old.items }
-        ensures near { Near (graph_of self.now.texts.now)
-            (name_at (graph_of self.now.texts.now) target) (count + 1) near.new.items }
-        ensures quiet { result ≡ false → AllBelow count near.new.items }
+    /// Notes `count` for each module that imports one of `frontier` and is not noted yet, and gives
+    /// the places of these.
+    fn widen(
+        &self,
+        alloc: Global,
+        near: &mut Vec<Option<usize>>,
+        frontier: &[usize],
+        count: usize,
+    ) -> Result<Vec<usize>, MemoryError>
+        requires all { length near.old.items ≡ length self.now.texts.now }
+        requires there { IsWithin (length self.now.texts.now) frontier.now }
+        ensures { IfOk result (λ next. Widened
+            (imports_one (graph_of self.now.texts.now) frontier.now) count
+            near.old.items near.new.items next.items) }
     {
-        let mut found = false;
-        for place in 0..self.len() {
-            if near[place].is_none() && self.step(near, target, count, place).is_some() {
-                near[place] = Some(count);
-                found = true;
+        let mut next = Vec::new(alloc);
+        for place in frontier {
+            for above in self.importers(*place) {
+                if near[*above].is_none() {
+                    near[*above] = Some(count);
+                    next.push(*above)?;
+                }
             }
         }
-        found
+        Ok(next)
     }
-    /// The imports beyond the first of each module's shortest way to `target`.
+    /// The imports beyond the first of each module's shortest way to `target`: a search from it
+    /// along importers, which comes to each module once.
     fn nearness(&self, alloc: Global, target: usize) -> Result<Vec<Option<usize>>, MemoryError>
         requires there { target < length self.now.texts.now }
         ensures { IfOk result (λ near. Near (graph_of self.now.texts.now)
             (name_at (graph_of self.now.texts.now) target) (length self.now.texts.now) near.items) }
     {
         let mut near = vec![in alloc; None; self.len()]?;
+        let mut frontier = vec![in alloc; target]?;
         for count in 0..self.len() {
-            if !self.widen(&mut near, target, count) {
+            if frontier.is_empty() {
                 return Ok(near);
             }
+            frontier = self.widen(alloc, &mut near, &frontier, count)?;
         }
         Ok(near)
     }
@@ -119,14 +138,23 @@ impl<'t> Modules<'t> {
         }
     }
 
-    /// The ring that is told, where there is one.
-    pub fn ring(&self, alloc: Global) -> Result<Option<Vec<Name>>, MemoryError>
+    /// The ring that is told, where there is one: a search from each module without a rank, in byte
+    /// order, until one leads back. Each search takes time linear in modules and imports. A module
+    /// with a rank is on no ring.
+    pub fn ring(
+        &self,
+        alloc: Global,
+        ranks: &Vec<Option<usize>>,
+    ) -> Result<Option<Vec<Name>>, MemoryError>
+        requires ranks { AreRanks (graph_of self.now.texts.now) ranks.now.items }
         ensures { IfOk result (λ way. option_map (λ w. w.items) way ≡
             told (graph_of self.now.texts.now)) }
     {
         for place in self.order() {
-            if let Some(way) = self.way_back(alloc, *place)? {
-                return Ok(Some(way));
+            if ranks[*place].is_none() {
+                if let Some(way) = self.way_back(alloc, *place)? {
+                    return Ok(Some(way));
+                }
             }
         }
         Ok(None)

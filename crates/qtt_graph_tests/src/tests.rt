@@ -69,11 +69,14 @@ fn is_ranked(alloc: Global, build: &[Lines], wanted: &[&[u32]]) -> Result<bool, 
 }
 
 fn is_ring(alloc: Global, build: &[Lines], wanted: &[&str]) -> Result<bool, Fail> {
-    let texts = texts(alloc, build)?;
-    if !is_whole(alloc, &texts)? {
+    is_ring_of(alloc, &texts(alloc, build)?, wanted)
+}
+
+fn is_ring_of(alloc: Global, texts: &[ModuleText], wanted: &[&str]) -> Result<bool, Fail> {
+    if !is_whole(alloc, texts)? {
         return Ok(false);
     }
-    let way = match ranks(alloc, &texts) {
+    let way = match ranks(alloc, texts) {
         Err(GraphError::Cycle(way)) => way,
         _ => return Ok(false),
     };
@@ -146,6 +149,25 @@ fn the_shortest_way_by_the_earlier_import(rt: HostRuntime) -> Result<(), Fail> {
         module("C", &["A"]),
     ];
     assert!(rt; is_ring(rt.alloc(), &repeated, &["A", "C"])?);
+    Ok(())
+}
+
+/// A module that imports another, each by its number.
+fn link(alloc: Global, number: u32, next: u32) -> Result<ModuleText, Fail> {
+    let name = format!(in alloc; "M{number}")?;
+    let import = format!(in alloc; "M{next}")?;
+    text(alloc, &module(name.as_str(), &[import.as_str()]))
+}
+
+/// A thousand modules, each of which imports the next one, and the last the one before it.
+#[test]
+fn a_long_chain_to_a_ring(rt: HostRuntime) -> Result<(), Fail> {
+    let mut chain = Vec::new(rt.alloc());
+    for number in 1000..1999 {
+        chain.push(link(rt.alloc(), number, number + 1)?)?;
+    }
+    chain.push(link(rt.alloc(), 1999, 1998)?)?;
+    assert!(rt; is_ring_of(rt.alloc(), &chain, &["M1998", "M1999"])?);
     Ok(())
 }
 

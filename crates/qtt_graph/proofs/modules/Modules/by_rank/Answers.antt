@@ -1,10 +1,11 @@
-use Rattle.std.proofs.Common.{rules, arith, ◌≡◌, ◌<◌, ◌+◌, ◌∙◌, sym, ap, subst, map, length, take, slice_index_or, slice_set}
+use Rattle.std.proofs.Common.{rules, arith, ◌≡◌, ◌∙◌, sym, ap, map, length, slice_index_or, None}
 use Rattle.std.proofs.lemmas.Fn.{filter_same}
 use Rattle.std.proofs.lemmas.List.{take_all, length-map}
 use Rattle.qtt_graph.specs.Modules.{graph_of, order_of}
 use Rattle.qtt_graph.specs.Levels.{levels}
 use Rattle.qtt_graph.proofs.NamePlaces.{graph-length}
-use Rattle.qtt_graph.proofs.Levelled.{levels-empty, levels-length, order-at, rank-at, put-step, whatever-else, is_filled, filled, filled-kept, filled-ranked}
+use Rattle.qtt_graph.proofs.Levelled.{levels-empty, levels-length, order-at, rank-at, put-step, pass-step, whatever-else, is_filled, filled, filled-kept, filled-ranked}
+use Rattle.qtt_graph.proofs.modules.Modules.by_rank.Goals.{in-Some+in_ok-number+in_ok-push, in_default}
 use Rattle.qtt_graph.proofs.modules.Modules.by_rank.Goals as goal
 
 pub loop-place-init : goal.loop-place-init
@@ -17,45 +18,52 @@ index-requires c =
     let there = order-at (graph_of self.texts.now) c.deref-place-items.result.now c.loop-place.place-index
     (c.deref-place-items.ensures.value ∙ self.ordered) c.loop-place-test.true in
     let all = c.requires.ranks.all in
-    omega (arith, there, all)
+    let ok = c.args.ranks.now.ok in
+    omega (arith, there, all, ok.0)
 
 pub index_mut-requires : goal.index_mut-requires
 index_mut-requires c =
     let self = c.args.self.now in
     let g = graph_of self.texts.now in
+    let ranks = c.args.ranks.now.items in
+    let place = slice_index_or c.deref-place-items.result.now c.loop-place.place-index 0 in
     let there = order-at g c.deref-place-items.result.now c.loop-place.place-index
     (c.deref-place-items.ensures.value ∙ self.ordered) c.loop-place-test.true in
     let all = c.requires.ranks.all in
-    let is = c.index.ensures ∙ whatever-else c.args.ranks.now.items _ c.index.result.now 0 (omega
-    (arith, there, all)) in
-    let low = subst (λ r. r < length g) (sym is)
-    (rank-at g self.closed c.args.ranks.now.items _ c.requires.ranks there) in
+    let is = whatever-else ranks place None c.index.result.now (omega (arith, there, all)) ∙ sym c.index.ensures ∙
+    c.in-Some.is in
+    let low = rank-at g self.closed ranks place c.in-Some.rank c.requires.ranks there is in
     let long = graph-length self.texts.now in
     let ok = c.loop-place.levels.ok in
     let many : length c.loop-place.levels.items ≡ length self.texts.now =
     sym (length-map c.loop-place.levels.items (λ l. l.items)) ∙ ap length c.loop-place.invariant ∙
-    levels-length c.args.ranks.now.items _ 0 (length self.texts.now) in
+    levels-length ranks _ 0 (length self.texts.now) in
     omega (arith, low, long, ok.0, many)
 
 pub loop-place-preserved : goal.loop-place-preserved
 loop-place-preserved c =
     let self = c.args.self.now in
     let g = graph_of self.texts.now in
+    let ranks = c.args.ranks.now.items in
     let row = c.deref-place-items.result.now in
-    let there = order-at g row c.loop-place.place-index
-    (c.deref-place-items.ensures.value ∙ self.ordered) c.loop-place-test.true in
+    let place = slice_index_or row c.loop-place.place-index 0 in
+    let there = order-at g row c.loop-place.place-index (c.deref-place-items.ensures.value ∙ self.ordered)
+    c.loop-place-test.true in
     let all = c.requires.ranks.all in
-    let is = c.index.ensures ∙ whatever-else c.args.ranks.now.items _ c.index.result.now 0 (omega
-    (arith, there, all)) in
-    let low = rank-at g self.closed c.args.ranks.now.items _ c.requires.ranks there in
+    let is = whatever-else ranks place None c.index.result.now (omega (arith, there, all)) ∙ sym c.index.ensures in
     let long = graph-length self.texts.now in
-    subst (λ r. map (λ l. l.items) (slice_set c.loop-place.levels.items r c.push.new.self) ≡
-    levels c.args.ranks.now.items (take (c.loop-place.place-index + 1) row) 0 (length self.texts.now)) (sym is)
-    (put-step (λ l. l.items) c.loop-place.levels.items c.push.new.self c.args.ranks.now.items row
-    c.loop-place.place-index (length self.texts.now) c.index_mut.result.now c.in_ok-number.field-0
-    c.loop-place-test.true (omega (arith, low, long)) c.loop-place.invariant
-    (c.index_mut.ensures.value ∙ ap (λ r. slice_index_or c.loop-place.levels.items r c.index_mut.result.now) is)
-    c.in_ok-number.ensures c.in_ok-push.ensures.items)
+    elim c.match-index.branch [
+      | in-Some+in_ok-number+in_ok-push w ↦ rw w.levels-is
+          (let low = rank-at g self.closed ranks place w.in-Some.rank c.requires.ranks there (is ∙ w.in-Some.is) in
+          put-step (λ l. l.items) c.loop-place.levels.items w.push.new.self ranks row c.loop-place.place-index
+          (length self.texts.now) w.in-Some.rank w.index_mut.result.now w.in_ok-number.field-0 c.loop-place-test.true
+          (is ∙ w.in-Some.is) (omega (arith, low, long)) c.loop-place.invariant w.index_mut.ensures.value
+          w.in_ok-number.ensures w.in_ok-push.ensures.items)
+      | in_default w ↦ rw w.levels-is
+          (c.loop-place.invariant ∙
+          pass-step ranks row c.loop-place.place-index (length self.texts.now) c.loop-place-test.true
+          (is ∙ w.in_default.is))
+    ]
 
 pub returns : goal.returns
 returns c =

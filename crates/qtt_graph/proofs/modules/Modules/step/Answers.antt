@@ -1,6 +1,6 @@
 use Rattle.std.proofs.Common.{◌∙◌, sym}
 use Rattle.qtt_graph.specs.Near.{goes_on_from}
-use Rattle.qtt_graph.proofs.Widening.{find-step, find-here}
+use Rattle.qtt_graph.proofs.Ways.{find-step, find-here}
 use Rattle.qtt_graph.proofs.modules.Modules.step.Goals as goal
 
 pub returns-then-goes_on : goal.returns-then-goes_on

@@ -3,7 +3,7 @@ use Rattle.qtt_graph.specs.Graph.{names}
 use Rattle.qtt_graph.specs.Modules.{graph_of, name_at}
 use Rattle.qtt_graph.specs.Near.{Near, Stepped, IsFirstWay}
 use Rattle.qtt_graph.proofs.NamePlaces.{once, graph-length}
-use Rattle.qtt_graph.proofs.Widening.{Going, going-stops, going-ends, going-on}
+use Rattle.qtt_graph.proofs.Ways.{Going, going-stops, going-ends, going-on}
 use Rattle.qtt_graph.proofs.modules.Modules.way.Goals as goal
 
 pub loop-next-init : goal.loop-next-init

@@ -1,5 +1,5 @@
 use Rattle.qtt_graph.specs.Modules.{graph_of}
-use Rattle.qtt_graph.proofs.Widening.{Going}
+use Rattle.qtt_graph.proofs.Ways.{Going}
 use Rattle.qtt_graph.proofs.modules.Modules.way.Given as goal
 
 abbrev pub invariant-loop-next : goal.invariant-loop-next

@@ -2,7 +2,7 @@ use Rattle.std.proofs.Common.{arith, ◌∙◌, sym, subst}
 use Rattle.qtt_graph.specs.Modules.{graph_of, name_at}
 use Rattle.qtt_graph.specs.Near.{Near}
 use Rattle.qtt_graph.proofs.NamePlaces.{graph-length}
-use Rattle.qtt_graph.proofs.Widening.{back-none, back-some}
+use Rattle.qtt_graph.proofs.Ways.{back-none, back-some}
 use Rattle.qtt_graph.proofs.modules.Modules.way_back.Goals as goal
 
 pub returns-in-Some : goal.returns-in-Some

@@ -1,53 +1,65 @@
-use Rattle.std.proofs.Common.{arith, ◌<◌, ◌∙◌, sym, ap, length, not}
-use Rattle.qtt_graph.specs.Graph.{names}
-use Rattle.qtt_graph.specs.Modules.{graph_of, name_at}
-use Rattle.qtt_graph.proofs.NamePlaces.{once, graph-length}
-use Rattle.qtt_graph.proofs.Widening.{widening, widened, place-noted, place-passed, place-kept}
-use Rattle.qtt_graph.proofs.modules.Modules.widen.Goals.{then-is_none+then-is_some, else-is_none, else-is_none-via-then-is_none+else-is_some, else-is_none-via-else-is_none}
+use Rattle.std.proofs.Common.{arith, ◌+◌, ◌<◌, ◌∙◌, sym, ap, subst, length, not, take, slice_index_or}
+use Rattle.qtt_graph.specs.Modules.{graph_of}
+use Rattle.qtt_graph.specs.Near.{Widened}
+use Rattle.qtt_graph.proofs.NamePlaces.{graph-length}
+use Rattle.qtt_graph.proofs.Turning.{within-row}
+use Rattle.qtt_graph.proofs.Searching.{partly, row-noted, row-kept, row-done}
+use Rattle.qtt_graph.proofs.modules.Modules.widen.Goals.{then-is_none+in_ok-push, else-is_none}
 use Rattle.qtt_graph.proofs.modules.Modules.widen.Goals as goal
 
-pub loop-place-init : goal.loop-place-init
-loop-place-init c =
+pub importers-above-items-requires : goal.importers-above-items-requires
+importers-above-items-requires c = record {
+  there = within-row (length c.args.self.now.texts.now) c.args.frontier.now c.loop-place.place-index c.requires.there
+      c.loop-place-test.true;
+}
+
+pub index-requires : goal.index-requires
+index-requires c =
     let g = graph_of c.args.self.now.texts.now in
-    widening g (name_at g c.args.target) c.args.count c.args.near.now.items c.requires.near
+    let low = within-row (length g) c.importers-above-items.result.now c.loop-above.above-index
+    c.importers-above-items.ensures.within c.loop-above-test.true in
+    let long = graph-length c.args.self.now.texts.now in
+    let all = c.loop-above.invariant.all in
+    let ok = c.loop-above.near.ok in
+    omega (arith, low, long, all, c.requires.all, ok.0)
+
+pub index_mut-requires : goal.index_mut-requires
+index_mut-requires c =
+    let g = graph_of c.args.self.now.texts.now in
+    let low = within-row (length g) c.importers-above-items.result.now c.loop-above.above-index
+    c.importers-above-items.ensures.within c.loop-above-test.true in
+    let long = graph-length c.args.self.now.texts.now in
+    let all = c.loop-above.invariant.all in
+    let ok = c.loop-above.near.ok in
+    omega (arith, low, long, all, c.requires.all, ok.0)
+
+pub loop-above-preserved : goal.loop-above-preserved
+loop-above-preserved c =
+    let g = graph_of c.args.self.now.texts.now in
+    let near = c.args.near.now.items in
+    let done = take c.loop-place.place-index c.args.frontier.now in
+    let row = c.importers-above-items.result.now in
+    let m = c.loop-above.above-index in
+    let within = within-row (length g) row m c.importers-above-items.ensures.within c.loop-above-test.true in
+    let long = graph-length c.args.self.now.texts.now in
+    let low : slice_index_or row m 0 < length near = omega (arith, within, long, c.requires.all) in
+    elim c.if-is_none.branch [
+      | then-is_none+in_ok-push w ↦ rw (w.near-is, w.next-is)
+          (subst (Widened (partly g done (take (m + 1) row)) c.args.count near _) (sym w.in_ok-push.ensures.items)
+          (row-noted g done row m c.args.count near c.loop-above.near.items c.loop-above.next.items
+          c.index.result.now c.loop-above-test.true low c.index.ensures
+          (ap not (c.is_none.ensures ∙ ap not w.if-is_none.true)) c.loop-above.invariant))
+      | else-is_none w ↦ rw (w.near-is, w.next-is)
+          (row-kept g done row m c.args.count near c.loop-above.near.items c.loop-above.next.items c.index.result.now
+          c.loop-above-test.true low c.index.ensures (ap not (c.is_none.ensures ∙ ap not w.if-is_none.false))
+          c.loop-above.invariant)
+    ]
 
 pub loop-place-preserved : goal.loop-place-preserved
 loop-place-preserved c =
-    let self = c.args.self.now in
-    let g = graph_of self.texts.now in
-    let long = graph-length self.texts.now in
-    let target = c.requires.there in
-    let there = c.loop-place-test.true in
-    let end = c.len-place-end.ensures in
-    let place : c.loop-place.place < length g = omega (arith, there, end, long) in
-    let one = once (names g) self.differ in
-    elim c.if-is_none.branch [
-      | then-is_none+then-is_some w ↦ rw (w.near-is, w.found-is)
-          (place-noted g c.args.target c.args.count c.loop-place.place c.loop-place.found c.loop-place.near.items
-          c.index.result.now w.step.result one (omega (arith, target, long)) place c.index.ensures
-          (ap not (c.is_none.ensures ∙ ap not w.if-is_none.true)) w.step.ensures (sym w.is_some.ensures ∙
-          w.if-is_some.true)
-          c.loop-place.invariant)
-      | else-is_none w ↦ rw (w.near-is, w.found-is) (elim w.else-is_none.branch [
-        | else-is_none-via-then-is_none+else-is_some u ↦
-            place-passed g c.args.target c.args.count c.loop-place.place c.loop-place.found c.loop-place.near.items
-            c.index.result.now u.step.result one (omega (arith, target, long)) place c.index.ensures
-            (ap not (c.is_none.ensures ∙ ap not u.if-is_none.true)) u.step.ensures (sym u.is_some.ensures ∙
-            u.if-is_some.false)
-            c.loop-place.invariant
-        | else-is_none-via-else-is_none u ↦
-            place-kept g (name_at g c.args.target) c.args.count c.loop-place.place c.loop-place.found
-            c.loop-place.near.items c.index.result.now place c.index.ensures
-            (ap not (c.is_none.ensures ∙ ap not u.if-is_none.false)) c.loop-place.invariant
-      ])
-    ]
-
-pub returns-clause-near : goal.returns-clause-near
-returns-clause-near c =
-    let self = c.args.self.now in
-    let g = graph_of self.texts.now in
-    let long = graph-length self.texts.now in
-    let end = c.len-place-end.ensures in
-    let all = c.loop-place-test.false in
-    widened g (name_at g c.args.target) c.args.count c.loop-place.place c.loop-place.found c.loop-place.near.items
-    (omega (arith, all, end, long)) c.loop-place.invariant
+    let g = graph_of c.args.self.now.texts.now in
+    let long = graph-length c.args.self.now.texts.now in
+    row-done g c.args.frontier.now c.importers-above-items.result.now c.loop-place.place-index
+    c.loop-above.above-index c.args.count c.args.near.now.items c.loop-above.near.items c.loop-above.next.items
+    (omega (arith, long, c.requires.all)) c.loop-place-test.true c.loop-above-test.false
+    c.importers-above-items.ensures c.loop-above.invariant
