@@ -7,6 +7,7 @@ use std::alloc::Global;
 use std::test::Fail;
 
 mod fronts;
+mod limits;
 mod places;
 mod rows;
 
@@ -225,7 +226,7 @@ static LEVELS: [Row; 14] = [
     ("x = (", "do let y = (", "a", ") ; b", ")", 66, "2:801 9"),
 ];
 
-static COUNTS: [Row; 13] = [
+static COUNTS: [Row; 15] = [
     (
         "f",
         " x",
@@ -341,6 +342,24 @@ static COUNTS: [Row; 13] = [
         "",
         "",
         65_536,
+        "2:5 31 bytes of a text literal 65537",
+    ),
+    (
+        "x = \"",
+        "\\n",
+        "\"",
+        "",
+        "",
+        65_536,
+        "2:5 31 bytes of a text literal 65537",
+    ),
+    (
+        "x = \"a",
+        "€",
+        "\"",
+        "",
+        "",
+        21_845,
         "2:5 31 bytes of a text literal 65537",
     ),
 ];
